@@ -1,0 +1,4 @@
+pub mod Cuts
+pub mod Spelling
+pub mod Written
+pub mod Framing

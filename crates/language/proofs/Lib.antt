@@ -1,0 +1,10 @@
+pub mod Lines
+pub mod Deciding
+pub mod Drafts
+pub mod Forms
+pub mod Spelled
+pub mod Goes
+pub mod Moves
+pub mod Heads
+pub mod Nodes
+pub mod ReadsBack

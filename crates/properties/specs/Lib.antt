@@ -1,0 +1,3 @@
+pub mod Views
+pub mod Meaning
+pub mod Normal
