@@ -1,0 +1,5 @@
+pub mod Successors
+pub mod Walks
+pub mod Words
+pub mod Parents
+pub mod Paths

@@ -1,0 +1,15 @@
+pub mod Fits
+pub mod Unfold
+pub mod Followers
+pub mod Unroll
+pub mod Bools
+pub mod Masks
+pub mod Spread
+pub mod Sat
+pub mod Claims
+pub mod TruthLemma
+pub mod Shadows
+pub mod NotNot
+pub mod Carries
+pub mod Backs
+pub mod OnLassos
