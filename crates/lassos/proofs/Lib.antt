@@ -1,0 +1,5 @@
+pub mod Words
+pub mod Joins
+pub mod Sweeps
+pub mod Nodes
+pub mod Counterexamples

@@ -1,0 +1,4 @@
+pub mod Rounds
+pub mod Truths
+pub mod Sweeps
+pub mod Judging

@@ -1,0 +1,31 @@
+//! Models: tables that are fed line by line, pairs and clamps, each with the Kripke structure that it means.
+pub mod clamps;
+mod entries;
+pub mod filling;
+pub mod laws;
+pub mod model;
+mod numbers;
+pub mod pairs;
+pub mod shapes;
+pub mod tables;
+mod words;
+
+pub use clamps::Clamp;
+pub use clamps::ClampGraph;
+pub use clamps::ClampModel;
+pub use filling::begin;
+pub use laws::clamps_admit;
+pub use laws::clamps_walk;
+pub use laws::pairs_number;
+pub use laws::pairs_step;
+pub use model::Model;
+pub use model::RefModel;
+pub use model::Sizes;
+pub use pairs::Pair;
+pub use pairs::PairGraph;
+pub use pairs::PairModel;
+pub use shapes::Filling;
+pub use shapes::Sealed;
+pub use tables::Table;
+pub use tables::TableGraph;
+pub use tables::TableModel;

@@ -1,0 +1,11 @@
+pub mod Loops
+pub mod Same
+pub mod Nodes
+pub mod Vertex
+pub mod Chaining
+pub mod Halves
+pub mod States
+pub mod Following
+pub mod Numbers
+pub mod Edges
+pub mod Going

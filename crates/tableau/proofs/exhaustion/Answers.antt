@@ -1,0 +1,5 @@
+use Rattle.tableau.proofs.Exhausting.{exhaustion}
+use Rattle.tableau.proofs.exhaustion.Needs as need
+
+pub returns : need.returns
+returns c = exhaustion

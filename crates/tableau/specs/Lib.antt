@@ -1,0 +1,12 @@
+pub mod Walks
+pub mod Rounds
+pub mod Criterion
+pub mod Exhausted
+pub mod Ways
+pub mod Numbers
+pub mod Verdicts
+pub mod Placed
+pub mod Masked
+pub mod Built
+pub mod Budget
+pub mod Images
