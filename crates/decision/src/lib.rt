@@ -1,0 +1,4 @@
+//! The decision procedure: whether a property holds over a model.
+pub mod verdict;
+
+pub use verdict::Verdict;

@@ -1,0 +1,5 @@
+pub mod Turns
+pub mod Ledgers
+pub mod Table
+pub mod Law
+pub mod Runs
