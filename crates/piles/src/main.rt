@@ -9,12 +9,15 @@ use models::Table;
 use models::TableModel;
 use std::error::AnyError;
 
+// Words of store for a table.
+const ROOM: usize = 320;
+
 fn run_case(rt: &LibcRuntime, case: &str) -> Result<(), AnyError> {
     let heap = rt.alloc();
     let Some((lines, question)) = case.split_once('|') else {
         return Ok(println!(rt, "{case}")?);
     };
-    let mut store = vec![in heap; 0; 16]?;
+    let mut store = vec![in heap; 0; ROOM]?;
     println!(rt, "{case}")?;
     match fill(heap, lines, store.as_mut_slice())? {
         Ok(sealed) => match question.split_once('%') {
