@@ -1,5 +1,8 @@
 //! Questions about a table, and piles of it.
 use crate::filling::words_of;
+use crate::points::Point;
+use crate::points::PointGraph;
+use crate::points::PointModel;
 use graphs::Graph;
 use graphs::RefGraph;
 use graphs::path;
@@ -104,6 +107,11 @@ fn paired(rt: &LibcRuntime, table: &Table<'_>) -> Result<(), AnyError> {
     describe(rt, &Pair::new(left, table))
 }
 
+// The table beside a model of one state and so many fair sets.
+fn beside(rt: &LibcRuntime, table: &Table<'_>, sets: u32) -> Result<(), AnyError> {
+    describe(rt, &Pair::new(table, Point::new(sets)))
+}
+
 // A clamp over a pair over a clamp.
 fn deep(rt: &LibcRuntime, table: &Table<'_>, mask: u16, value: u16) -> Result<(), AnyError> {
     let inner = Clamp::new(table, mask, value);
@@ -114,6 +122,7 @@ fn deep(rt: &LibcRuntime, table: &Table<'_>, mask: u16, value: u16) -> Result<()
 fn pile(rt: &LibcRuntime, table: &Table<'_>, kind: &str, args: &[u32]) -> Result<(), AnyError> {
     match (kind, args) {
         ("pair", []) => paired(rt, table),
+        ("beside", [sets]) => beside(rt, table, *sets),
         ("clamp", [mask, value]) => {
             let mask = (*mask % 65536) as u16;
             let value = (*value % 65536) as u16;

@@ -3,6 +3,7 @@
 //! another store that the table is laid over.
 mod asking;
 mod filling;
+mod points;
 
 use filling::fill;
 use models::Table;
