@@ -1,1 +1,4 @@
 pub mod Deciding
+pub mod Layers
+pub mod Testing
+pub mod Dues
