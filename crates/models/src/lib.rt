@@ -20,7 +20,6 @@ pub use laws::pairs_number;
 pub use laws::pairs_step;
 pub use model::Model;
 pub use model::RefModel;
-pub use model::Sizes;
 pub use pairs::Pair;
 pub use pairs::PairGraph;
 pub use pairs::PairModel;

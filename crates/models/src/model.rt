@@ -7,13 +7,6 @@ ghost use Rattle.models.specs.Markings.{Marking};
 use graphs::Graph;
 use graphs::RefGraph;
 
-// How many states and fair sets a model has.
-#[derive(Clone, Copy)]
-pub struct Sizes {
-    pub states: u32,
-    pub sets: u32,
-}
-
 // What a model means is `structure` of its graph's states and edges, and of its marking.
 pub trait Model: Graph {
     ghost marking: { Self → Marking };
@@ -34,19 +27,6 @@ pub trait Model: Graph {
         ensures few { λ r. ⌜ r ≤ 8 ⌝ }
         ensures small { λ _. ⌜ Self·Graph .states (now (self .entry)) ≤ 65536 ⌝ }
         ensures void { λ r. ⌜ (Self·Graph .states (now (self .entry)) ≡ 0 → r ≡ 0) ⌝ };
-
-    // Both numbers in one question, so that a pile need not ask each of its parts again and again.
-    fn sizes(&self) -> Sizes
-        ensures states { λ r. ⌜ r .states ≡ Self·Graph .states (now (self .entry)) ⌝ }
-        ensures sets { λ r. ⌜ r .sets ≡ marking (now (self .entry)) .sets ⌝ }
-        ensures few { λ r. ⌜ r .sets ≤ 8 ⌝ }
-        ensures small { λ r. ⌜ r .states ≤ 65536 ⌝ }
-    {
-        Sizes {
-            states: self.states(),
-            sets: self.fair_sets(),
-        }
-    }
 
     // Whether the fair set `j` holds a state.
     fn fair(&self, j: u32, s: u32) -> bool
@@ -69,10 +49,6 @@ pub impl<'a, M: Model> Model for &'a M as RefModel {
 
     fn fair_sets(&self) -> u32 {
         (**self).fair_sets()
-    }
-
-    fn sizes(&self) -> Sizes {
-        (**self).sizes()
     }
 
     fn fair(&self, j: u32, s: u32) -> bool {
