@@ -68,8 +68,8 @@ def collect():
     return {n: t for n, t in turned.items() if n != t}, fields, kept
 
 
-def respell(text, turned, fields, skip, made):
-    """Turns the names in a piece of text; `made` says that c, l and g are the records that Rattle makes."""
+def respell(text, turned, fields, skip, made, modules=()):
+    """Turns the names in a piece of text; `made` says that c, l and g are the records that Rattle makes, `modules` are names of modules."""
     out, at = [], 0
     for m in TOKEN.finditer(text):
         word = m.group(0)
@@ -77,8 +77,10 @@ def respell(text, turned, fields, skip, made):
             continue
         before = text[:m.start()]
         if before.endswith("."):
-            # a module's item, as in `use A.b`, does not occur; this is a projection
-            if word not in fields or before.endswith("goal."):
+            # a projection, but where a module is named: in a `use` line, and behind the name that such a line gives it
+            base = re.search(r"([\w']+)\.$", before)
+            module = before.lstrip().startswith(("use ", "ghost use ", "pub use ")) or (base is not None and base.group(1) in modules)
+            if not module and (word not in fields or before.endswith("goal.")):
                 continue
             if made and re.search(r"(^|[\s(\[{,])[clg]\.$", before):
                 continue
@@ -95,10 +97,11 @@ def turn_antt(path, turned, fields):
     text = read(path)
     skip = {m.group(1) for m in map(GOAL.match, text.split("\n")) if m}
     made = os.path.basename(path) in ("Answers.antt", "Invariants.antt", "Proof.antt")
+    modules = set(re.findall(r"^use [^\s{]+ as (\w+)\s*$", text, re.M)) - {"goal"}
     lines = []
     for line in text.split("\n"):
         code, dash, rest = line.partition("-- ") if not line.startswith("--") else ("", "", line)
-        lines.append(respell(code, turned, fields, skip, made) + dash + comment(rest, turned))
+        lines.append(respell(code, turned, fields, skip, made, modules) + dash + comment(rest, turned))
     return "\n".join(lines)
 
 

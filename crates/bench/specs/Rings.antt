@@ -1,5 +1,5 @@
 -- A ring of n states: each leads to the next, and the last to state 0, which is the start. Proposition 0 is false at state 1 alone.
-use Rattle.std.specs.Prelude.{ℕ, ◌+◌, Bool, false, cond, not, ◌&&◌, ◌==◌, nat_lt}
+use Rattle.std.specs.Prelude.{ℕ, ◌+◌, false, cond, not, ◌&&◌, ◌==◌, nat_lt}
 use Rattle.models.specs.Markings.{Marking}
 
 -- the state after s

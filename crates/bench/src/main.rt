@@ -1,11 +1,13 @@
 //! Work of a chosen size, to be timed: `path N` and `table N` ask for the longest shortest walk of a ring of N states, as a ring and as
 //! a table; `judge N` asks the judge about a loop of N words with a connective of eight states.
+#![tactic(auto)]
+
 mod rings;
 
 use anyhow::anyhow;
 use graphs::{Graph, path};
 use lassos::judge;
-use models::{Model, Table, TableModel, begin};
+use models::{Model, Table, begin};
 use properties::Property;
 use rings::Ring;
 use std::alloc::Global;

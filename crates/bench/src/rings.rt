@@ -3,7 +3,7 @@ ghost use Rattle.std.specs.Prelude.{◌≡◌, ℕ, ◌+◌, ◌≤◌, min, fal
 ghost use Rattle.bench.specs.Rings.{after, ring_marking};
 
 use graphs::Graph;
-use models::Model;
+use models::Model as KripkeModel;
 
 #[derive(Clone, Copy)]
 pub struct Ring {
@@ -50,7 +50,7 @@ impl Graph for Ring {
     }
 }
 
-pub impl Model for Ring as RingModel {
+impl KripkeModel for Ring {
     ghost marking = { λ r. ring_marking r.states };
 
     fn label(&self, s: u32) -> u16 {

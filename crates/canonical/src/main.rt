@@ -1,4 +1,6 @@
 //! Reads a property's text from standard input, and writes its canonical text, or the refusal as one line.
+#![tactic(auto)]
+
 use anyhow::anyhow;
 use properties::normalise;
 use std::io::{Read, Write};

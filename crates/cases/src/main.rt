@@ -1,5 +1,7 @@
 //! Reads cases from standard input, one a line, and prints what comes of each: its canonical text, or its refusal.
 //! In a case `/` stands for the byte 0A, a blank only parts pieces, and `N*` before a piece repeats it.
+#![tactic(auto)]
+
 use anyhow::anyhow;
 use properties::normalise;
 use std::io::Write;

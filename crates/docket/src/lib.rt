@@ -1,4 +1,6 @@
 //! The docket: eight numbers, each with a property or nothing, and the calls that are made of it.
+#![tactic(auto)]
+
 pub mod agreeing;
 pub mod docket;
 pub mod requests;

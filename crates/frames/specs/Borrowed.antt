@@ -5,7 +5,7 @@ use Rattle.frames.specs.declared.faults.FrameFault.{FrameFault}
 use Rattle.frames.specs.declared.faults.LineFault.{LineFault}
 use Rattle.frames.specs.declared.kinds.Frame.{Frame as Borrowed}
 use Rattle.frames.specs.declared.kinds.Frame.TheVariants.{Connective, Transition, Proposition, Not, Next, And, Or, Apply, True, End}
-use Rattle.frames.specs.Frames.{Node, Frame}
+use Rattle.frames.specs.Frames.{Frame}
 use Rattle.frames.specs.Frames.Node.{proposition, negation, next, both, either, apply, truth}
 use Rattle.frames.specs.Frames.Frame.{connective, transition, node, end}
 use Rattle.frames.specs.Lines.{spelt}

@@ -1,4 +1,6 @@
 //! The bytes of texts: hexadecimal digits, lines, frames, the table of refusals, and the writing of numbers.
+#![tactic(auto)]
+
 pub mod digits;
 pub mod faults;
 pub mod kinds;

@@ -1,4 +1,6 @@
 //! Graphs that are asked for the lowest successor, and the finder of a walk of fewest steps.
+#![tactic(auto)]
+
 mod cleaning;
 mod exploring;
 pub mod finding;

@@ -1,4 +1,6 @@
 //! Kripke structures: what a model means, its lassos, and which of them are fair.
+#![tactic(auto)]
+
 ghost use Rattle.kripke.specs.Laws.{OneMeaningIsEquality};
 
 // Models of one meaning have exactly the same lassos, and the same fair ones.

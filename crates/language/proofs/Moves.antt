@@ -4,7 +4,7 @@ use mathlib.Core.Path.{fun_ext}
 use mathlib.Core.Bool.{or_assoc}
 use Rattle.std.proofs.lemmas.List.{length_push, get_or_push, set_at}
 use Rattle.std.proofs.lemmas.Bool.{and_parts, and_from, ltb-true, leb-true, lt-ltb}
-use Rattle.frames.specs.Frames.Frame.{connective, transition}
+use Rattle.frames.specs.Frames.Frame.{transition}
 use Rattle.language.specs.Properties.{Connective, idle, connective_fits}
 use Rattle.language.specs.Reading.{Draft, is_empty, latest, moving, extended, in_range}
 use Rattle.language.specs.Canonical.{each, transition_line, transition_lines}

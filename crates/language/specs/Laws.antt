@@ -1,5 +1,5 @@
 -- The laws of reading and writing, in the words of the subject.
-use Rattle.std.specs.Prelude.{◌≡◌, ℕ, suc, ◌+◌, ◌<◌, ◌≤◌, true, false, List, [], ◌∷◌, ◌++◌, length, Ok, Err, Result}
+use Rattle.std.specs.Prelude.{◌≡◌, ℕ, suc, ◌+◌, ◌<◌, ◌≤◌, false, List, [], ◌∷◌, ◌++◌, length, Ok, Err, Result}
 use Rattle.frames.specs.declared.faults.LineFault.TheVariants.{Unclosed}
 use Rattle.frames.specs.declared.faults.FrameFault.TheVariants.{Line}
 use Rattle.frames.specs.declared.faults.Refusal.{Refusal}

@@ -1,4 +1,6 @@
 //! The language of properties: which property a text spells, its canonical text, and the laws that tie the two.
+#![tactic(auto)]
+
 ghost use Rattle.language.specs.Laws.{CanonicalReadsBack, ReadingIsDecided, ReadingIsWellFormed, ShownShowsItself};
 
 // The first line at fault decides about a text, and a property is read exactly when every line is taken and the end stands last.

@@ -1,5 +1,5 @@
 -- What a node says by the bits at hand is its truth.
-use Rattle.std.proofs.Common.{◌≡◌, ℕ, zero, suc, ◌+◌, ◌-◌, ◌^◌, ◌<◌, ◌≤◌, Bool, true, ◌&&◌, T, ltb, leb, ◌⊎◌, ◌↔◌, List, [], ◌∷◌, length, get_or, take, set, Decides, sym, refl, ap, ◌∙◌, subst, ap₂, inl, inr, ⊎_elim, arith}
+use Rattle.std.proofs.Common.{◌≡◌, ℕ, zero, suc, ◌+◌, ◌-◌, ◌^◌, ◌<◌, ◌≤◌, Bool, true, T, ltb, leb, ◌↔◌, List, [], ◌∷◌, length, get_or, take, set, Decides, sym, refl, ap, ◌∙◌, subst, ap₂, ⊎_elim, arith}
 use mathlib.Core.Logic.Iff
 use Rattle.std.proofs.lemmas.List.{get_or-take, length-take, get_or-map}
 use Rattle.std.proofs.lemmas.Bool.{and_parts, cases_eq, ltb-true}
@@ -9,12 +9,11 @@ use Rattle.language.specs.Masks.{bit}
 use Rattle.language.specs.Properties.{Connective, Property, all_fit, connective_at, connective_fits}
 use Rattle.logic.specs.Truth.{Fulfilled, Holds, Line, Says, later, node_at, root}
 use Rattle.logic.proofs.Bools.{along_T, iff_and, iff_not, iff_or}
-use Rattle.logic.proofs.Fits.{NodeFits, fits_at, operand_below, root_in}
+use Rattle.logic.proofs.Fits.{NodeFits, fits_at, root_in}
 use Rattle.logic.proofs.Sat.{fulfil_map, holds_unfold}
 use Rattle.properties.specs.Meaning.{meaning}
 use Rattle.properties.specs.Views.{connective_of, no_row, node_of}
 use Rattle.properties.specs.declared.property.Property.{Property as Stored}
-use Rattle.properties.specs.declared.rows.Connective.{Connective as ConnectiveRow}
 use Rattle.properties.specs.declared.rows.Node.{Node as NodeRow}
 use Rattle.properties.specs.declared.rows.Node.TheVariants.{True, Proposition, Not, Next, And, Or, Apply}
 use Rattle.properties.proofs.Formed.{formed}

@@ -2,13 +2,13 @@
 use Rattle.std.proofs.Common.{◌≡◌, ℕ, zero, suc, ◌+◌, ◌-◌, ◌*◌, ◌/◌, ◌%◌, ◌^◌, ◌<◌, ◌≤◌, Bool, true, false, cond, not, ◌&&◌, ◌||◌, T, eqb, ◌⊎◌, List, length, get_or, set, sym, refl, ap, ◌∙◌, subst, inl, inr, ⊎_elim, mod-lt, mul_assoc, add_comm, pow-suc, add-one, arith, pow_pos, pow-add}
 use native.Mathlib.Nat.{add-mul-div_right, add-mul-mod_self_right, div-eq_of_lt, div_self, zero-div}
 use lib.Bits.{bit_and, bit_or}
-use lib.Pow.{pow-lt, high, split, shl-shr}
+use lib.Pow.{pow-lt, high, split}
 use Rattle.std.proofs.lemmas.Nat.{and_mod, and_shr, mod_below, or_mod, or_shr}
 use Rattle.std.proofs.lemmas.List.{get_or-set_other, get_or-set_same}
-use Rattle.std.proofs.lemmas.Bool.{cases_eq, cases_lt, cases_order, eq-eqb, eqb-false, eqb-true, ne_eqb, or_from}
+use Rattle.std.proofs.lemmas.Bool.{cases_eq, cases_lt, cases_order, eq-eqb, eqb-true, ne_eqb, or_from}
 use Rattle.language.specs.Masks.{bit}
 use Rattle.logic.specs.Product.{mask_of, some_below}
-use Rattle.logic.proofs.Bools.{T_and, T_or_left, T_or_right, and_T, or_T}
+use Rattle.logic.proofs.Bools.{T_and, and_T}
 use Rattle.logic.proofs.Masks.{mask_whole}
 use Rattle.lassos.specs.Sweeps.{meet}
 

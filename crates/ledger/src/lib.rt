@@ -1,4 +1,6 @@
 //! The turns made of a docket, the ledger that they are read into, and the law that they keep together: mathematics, no code.
+#![tactic(auto)]
+
 ghost use Rattle.ledger.specs.Runs.{DocketKeepsLedger, TurnsAreLawful, TurnsGoByLaw};
 
 // Nothing but turns changes a docket: it has what the ledger of the turns that led to it says.

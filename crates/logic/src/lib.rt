@@ -1,4 +1,6 @@
 //! Truth of properties on words and lassos, and the product that decides it.
+#![tactic(auto)]
+
 ghost use Rattle.logic.specs.Laws.{BackMasks, ConnectivesUnfold, FinalStartIsTrue, LassosUnroll, MayDecide, MeaningDecides, NoneInProduct, OneTime, Persists, PersistsAlong, ProductFalsifies, ShadowLemma, TruthLemma};
 
 // Truth on a lasso is truth of the infinite word that it unrolls to, and that word repeats its loop.

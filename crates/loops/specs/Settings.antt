@@ -1,5 +1,5 @@
 -- Where a loop is built: what is known of the component, and of the lent words.
-use Rattle.std.specs.Prelude.{◌≡◌, ℕ, ◌+◌, ◌*◌, ◌<◌, ◌≤◌, Bool, T, List, length}
+use Rattle.std.specs.Prelude.{ℕ, ◌+◌, ◌*◌, ◌<◌, ◌≤◌, Bool, T, List, length}
 use Rattle.graphs.specs.Walks.{Reaches}
 use Rattle.graphs.specs.Words.{Clear}
 use Rattle.kripke.specs.Models.{Kripke}

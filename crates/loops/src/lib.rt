@@ -1,4 +1,6 @@
 //! The loop builder: from a component of the product that passed its test, a fair lasso on which the property is false.
+#![tactic(auto)]
+
 mod building;
 mod carrying;
 mod closing;

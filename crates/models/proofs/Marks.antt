@@ -4,7 +4,7 @@ use Rattle.frames.specs.declared.faults.Refusal.{Refusal}
 use Rattle.models.specs.declared.entries.Entry.{Entry}
 use Rattle.models.specs.declared.entries.Entry.TheVariants.{State}
 use Rattle.models.specs.Entries.{entry, line_says}
-use Rattle.models.specs.Fillings.{Filled, allowed, answer, changed_by, fed, judged, marked, shape_after, words_after}
+use Rattle.models.specs.Fillings.{allowed, answer, changed_by, fed, judged, marked, shape_after, words_after}
 use Rattle.models.specs.Tables.{Shape, state_word, words_used}
 
 keeps : (f : Shape) (values room : Bool) (words : List ℕ) → f ≡ shape_after f (judged values room (record { shape = f; words = words }))

@@ -1,4 +1,6 @@
 //! Models: tables that are fed line by line, pairs and clamps, each with the Kripke structure that it means.
+#![tactic(auto)]
+
 pub mod clamps;
 mod entries;
 pub mod filling;

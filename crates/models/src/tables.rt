@@ -4,7 +4,7 @@ ghost use Rattle.models.specs.Fillings.{sealed_shape};
 ghost use Rattle.models.specs.Markings.{marking_of};
 ghost use Rattle.models.specs.Tables.{pair_words, table, word_of};
 
-use crate::model::Model;
+use crate::model::{Model, Model as KripkeModel};
 use crate::shapes::Sealed;
 use crate::words::{bit, nearer, part, word_at};
 use graphs::Graph;
@@ -66,7 +66,7 @@ impl<'a> Graph for Table<'a> {
     }
 }
 
-pub impl<'a> Model for Table<'a> as TableModel {
+impl<'a> KripkeModel for Table<'a> {
     ghost marking = { λ t. marking_of (table (sealed_shape t.sealed.now) t.store.now) };
 
     fn label(&self, s: u32) -> u16 {

@@ -1,4 +1,6 @@
 //! The obligation graph of a component of the product, and the test of a component.
+#![tactic(auto)]
+
 pub mod accepting;
 mod bits;
 pub mod dues;

@@ -1,5 +1,5 @@
 -- A model of one state, a start that leads to itself and lies in every fair set.
-use Rattle.std.specs.Prelude.{ℕ, Bool, ◌&&◌, ◌==◌, nat_lt}
+use Rattle.std.specs.Prelude.{ℕ, ◌&&◌, ◌==◌, nat_lt}
 use Rattle.models.specs.Markings.{Marking}
 
 abbrev pub point_marking : (sets : ℕ) → Marking

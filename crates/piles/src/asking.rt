@@ -3,7 +3,7 @@ use crate::filling::words_of;
 use crate::points::Point;
 use graphs::{Graph, path};
 use lassos::judge;
-use models::{Clamp, ClampModel, Model, Pair, PairModel, Table, TableModel};
+use models::{Clamp, Model, Pair, Table};
 use properties::Property;
 
 // The successors of a state, one question after the other.

@@ -1,12 +1,14 @@
 //! Tables, piles, shortest walks and the judge at work. Each line of standard input has the lines of a table, a bar, and a question;
 //! what comes of it is printed. In the table's lines `/` stands for the byte 0A. Numbers before a `%` in the question are the words of
 //! another store that the table is laid over.
+#![tactic(auto)]
+
 mod asking;
 mod filling;
 mod points;
 
 use filling::fill;
-use models::{Table, TableModel};
+use models::Table;
 
 // Words of store for a table.
 const ROOM: usize = 320;

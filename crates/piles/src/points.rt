@@ -3,7 +3,7 @@ ghost use Rattle.std.specs.Prelude.{◌≡◌, ℕ, ◌≤◌, min, ◌&&◌, �
 ghost use Rattle.piles.specs.Points.{point_marking};
 
 use graphs::Graph;
-use models::Model;
+use models::Model as KripkeModel;
 
 #[derive(Clone, Copy)]
 pub struct Point {
@@ -33,7 +33,7 @@ impl Graph for Point {
     }
 }
 
-pub impl Model for Point as PointModel {
+impl KripkeModel for Point {
     ghost marking = { λ p. point_marking p.sets };
 
     fn label(&self, _s: u32) -> u16 {

@@ -1,4 +1,6 @@
 //! The product of a model with a property: what is true and claimed at a vertex, its edges, and the index that answers for successors.
+#![tactic(auto)]
+
 mod applied;
 mod bits;
 mod claiming;

@@ -1,5 +1,5 @@
 -- Lists of rows that grow by one or change in one place, and what is seen of them.
-use Rattle.std.proofs.Common.{◌≡◌, ℕ, zero, suc, ◌+◌, ◌<◌, ◌≤◌, List, [], ◌∷◌, ◌++◌, map, length, get_or, take, set, sym, refl, ap, ◌∙◌, ap₂, arith}
+use Rattle.std.proofs.Common.{◌≡◌, ℕ, zero, suc, ◌+◌, ◌<◌, List, [], ◌∷◌, ◌++◌, map, length, get_or, take, set, refl, ap, ◌∙◌, arith}
 use Rattle.std.proofs.lemmas.List.{map_push, map-set, take_more_set}
 use Rattle.frames.specs.Frames.{Node}
 use Rattle.language.specs.Properties.{Connective, node_width, width}

@@ -1,5 +1,5 @@
 -- The property that rows, a draft and a stored property stand for.
-use Rattle.std.specs.Prelude.{Bool, Ok, Err, Result}
+use Rattle.std.specs.Prelude.{Ok, Err, Result}
 use Rattle.frames.specs.declared.faults.Refusal.{Refusal}
 use Rattle.language.specs.Properties.{Property}
 use Rattle.language.specs.Reading.{Draft}

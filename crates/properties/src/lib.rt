@@ -1,4 +1,6 @@
 //! Properties as plain rows: read from a text, and written as their canonical text.
+#![tactic(auto)]
+
 pub mod building;
 pub mod drafts;
 pub mod judging;

@@ -1,4 +1,6 @@
 //! The report of what a check answered, as bytes.
+#![tactic(auto)]
+
 pub mod lines;
 pub mod reporting;
 

@@ -17,7 +17,7 @@ use Rattle.logic.specs.Truth.{node_at}
 use Rattle.logic.specs.Product.{some_below}
 use Rattle.logic.proofs.Bools.{some_in, some_out}
 use Rattle.tableau.specs.Walks.{Vertex, ProductWalk, StronglyConnected, Accepting, everywhere}
-use Rattle.tableau.specs.Walks.Product-walk.{leave}
+use Rattle.tableau.specs.Walks.ProductWalk.{leave}
 use Rattle.tableau.specs.Rounds.{PartialLoop, Visits, count, pending, pending_node, lasso_along, no_vertex}
 use Rattle.tableau.specs.Criterion.{AcceptingComponent, Broken}
 use Rattle.tableau.proofs.Tests.{T_dec}

@@ -16,7 +16,7 @@ use Rattle.logic.proofs.Bools.{T_and, and_T, some_in, some_out}
 use Rattle.logic.proofs.Followers.{follower_in, last_follower, next_follower}
 use Rattle.logic.proofs.OnLassos.{none_in_product}
 use Rattle.tableau.specs.Walks.{Vertex, ProductWalk, ProductReaches, StronglyConnected, everywhere, vertex_over}
-use Rattle.tableau.specs.Walks.Product-walk.{stop, leave}
+use Rattle.tableau.specs.Walks.ProductWalk.{stop, leave}
 use Rattle.tableau.specs.Criterion.{AcceptingComponent, Criterion}
 use Rattle.tableau.proofs.Walking.{walk_append}
 use Rattle.tableau.proofs.Complete.{complete, shadow_edge, loop_follower}

@@ -11,7 +11,7 @@ use Rattle.language.specs.Masks.{bit}
 use Rattle.language.specs.Properties.{Property, WellFormed, connective_at}
 use Rattle.logic.specs.Truth.{node_at, root}
 use Rattle.tableau.specs.Walks.{Vertex, IsVertex, Edge, ProductWalk, ProductReaches, StronglyConnected, Discharges, Accepting, everywhere, claimed_at, holds_at}
-use Rattle.tableau.specs.Walks.Product-walk.{stop, leave}
+use Rattle.tableau.specs.Walks.ProductWalk.{stop, leave}
 use Rattle.tableau.specs.Walks.Discharges.{discharged, goes}
 use Rattle.tableau.specs.Criterion.{AcceptingComponent, Broken}
 use Rattle.tableau.specs.Exhausted.{Within, EdgeClosed, Exhausted, BottomComponent, Exhaustion}

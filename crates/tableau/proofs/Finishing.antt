@@ -22,9 +22,9 @@ use Rattle.logic.proofs.Unfold.{fold_final, fold_step}
 use Rattle.logic.proofs.Followers.{next_follower, follower_in}
 use Rattle.logic.proofs.OnLassos.{one_time_lasso, product_falsifies}
 use Rattle.tableau.specs.Walks.{Vertex, Edge, ProductWalk, Obligation, everywhere, holds_at, claimed_at}
-use Rattle.tableau.specs.Walks.Product-walk.{stop, leave}
+use Rattle.tableau.specs.Walks.ProductWalk.{stop, leave}
 use Rattle.tableau.specs.Rounds.{FulfilledAlong, Visits, Finishes, lasso_along, no_vertex}
-use Rattle.tableau.specs.Rounds.Fulfilled-along.{ended, moved}
+use Rattle.tableau.specs.Rounds.FulfilledAlong.{ended, moved}
 use Rattle.tableau.proofs.Tests.{T_dec, is_true}
 use Rattle.tableau.proofs.Walking.{mask_edge, walk_append, walk_first, walk_edge}
 

@@ -18,7 +18,7 @@ use Rattle.logic.specs.OnLassos.{Counterexample}
 use Rattle.logic.specs.Product.{start_of}
 use Rattle.graphs.specs.Walks.{Walk}
 use Rattle.tableau.specs.Walks.{Vertex, ProductWalk, everywhere, holds_at}
-use Rattle.tableau.specs.Walks.Product-walk.{stop, leave}
+use Rattle.tableau.specs.Walks.ProductWalk.{stop, leave}
 use Rattle.tableau.specs.Rounds.{PartialLoop, Visits, lasso_along, no_vertex}
 use Rattle.tableau.specs.Masked.{MaskRounded}
 use Rattle.tableau.specs.Numbers.{vertex_of, vertices, product_edge, of_numbers, obligation_edge, layered, left_on}

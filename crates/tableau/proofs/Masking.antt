@@ -19,7 +19,7 @@ use Rattle.logic.proofs.Bools.{T_and, and_T, some_in, some_out}
 use Rattle.logic.proofs.Fits.{NodeFits, fits_at, start_fits}
 use Rattle.logic.proofs.Masks.{mask_fits, mask_bit, mask_same, mask_whole}
 use Rattle.tableau.specs.Walks.{Vertex, ProductWalk, Discharges, Obligation, DischargedAt, claimed_at}
-use Rattle.tableau.specs.Walks.Product-walk.{stop, leave}
+use Rattle.tableau.specs.Walks.ProductWalk.{stop, leave}
 use Rattle.tableau.specs.Walks.Discharges.{discharged, goes}
 use Rattle.tableau.specs.Rounds.{FulfilledAlong, Runs, PartialLoop, Rounded, count, carry, carried, carry_along, without, pending, pending_node}
 use Rattle.tableau.specs.Masked.{pending_mask, carried_mask, carried_along, MaskRounded, Masked}

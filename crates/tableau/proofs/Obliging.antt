@@ -20,7 +20,7 @@ use Rattle.logic.proofs.Spread.{start_mono}
 use Rattle.logic.proofs.Claims.{claim_is, claim_final, apply_back}
 use Rattle.graphs.specs.Walks.{Walk}
 use Rattle.tableau.specs.Walks.{Vertex, Edge, ProductWalk, Discharges, Continues, everywhere, holds_at, claimed_at}
-use Rattle.tableau.specs.Walks.Product-walk.{stop, leave}
+use Rattle.tableau.specs.Walks.ProductWalk.{stop, leave}
 use Rattle.tableau.specs.Walks.Discharges.{discharged, goes}
 use Rattle.tableau.specs.Rounds.{leads}
 use Rattle.tableau.specs.Numbers.{number_of, vertex_of, vertices, product_edge, inner_edge, of_numbers, ends_now, moves_node, layer_step, obligation_edge_at, obligation_edge, layered, left_on, ObligationGraph}

@@ -17,9 +17,9 @@ use Rattle.logic.specs.Product.{some_below, start_of}
 use Rattle.logic.proofs.Bools.{T_and, and_T, some_in, some_out}
 use Rattle.logic.proofs.Claims.{Step, claim_is, claim_out, apply_back}
 use Rattle.tableau.specs.Walks.{Vertex, Edge, ProductWalk, Obligation, claimed_at, holds_at}
-use Rattle.tableau.specs.Walks.Product-walk.{stop, leave}
+use Rattle.tableau.specs.Walks.ProductWalk.{stop, leave}
 use Rattle.tableau.specs.Rounds.{FulfilledAlong, Runs, PartialLoop, Begins, Round, NextNode, Extends, count, leads, carry, carried, carry_along, without, pending, pending_node}
-use Rattle.tableau.specs.Rounds.Fulfilled-along.{ended, moved}
+use Rattle.tableau.specs.Rounds.FulfilledAlong.{ended, moved}
 use Rattle.tableau.specs.Rounds.Runs.{halt, more}
 use Rattle.tableau.proofs.Tests.{T_dec, T_not, not_T}
 use Rattle.tableau.proofs.Walking.{mask_edge, apply_in, walk_append, along, discharges_walk, discharges_done, done_append, runs_done, runs_append}

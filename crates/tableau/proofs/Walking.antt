@@ -19,10 +19,10 @@ use Rattle.logic.specs.Paths.{MaskEdge}
 use Rattle.logic.proofs.Masks.{mask_bit}
 use Rattle.logic.proofs.Claims.{persist_edge}
 use Rattle.tableau.specs.Walks.{Vertex, Edge, ProductWalk, ProductReaches, Discharges, Continues, claimed_at}
-use Rattle.tableau.specs.Walks.Product-walk.{stop, leave}
+use Rattle.tableau.specs.Walks.ProductWalk.{stop, leave}
 use Rattle.tableau.specs.Walks.Discharges.{discharged, goes}
 use Rattle.tableau.specs.Rounds.{FulfilledAlong, Runs}
-use Rattle.tableau.specs.Rounds.Fulfilled-along.{ended, moved}
+use Rattle.tableau.specs.Rounds.FulfilledAlong.{ended, moved}
 use Rattle.tableau.specs.Rounds.Runs.{halt, more}
 
 -- the masks of an edge, bit by bit

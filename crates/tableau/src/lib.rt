@@ -1,4 +1,6 @@
 //! The mathematics of the decision procedure: accepting components of the product, the obligation graph and the loop builder.
+#![tactic(auto)]
+
 ghost use Rattle.tableau.specs.Budget.{Budget};
 ghost use Rattle.tableau.specs.Built.{Builds};
 ghost use Rattle.tableau.specs.Criterion.{Criterion};

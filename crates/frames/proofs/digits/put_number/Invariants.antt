@@ -1,4 +1,4 @@
-use Rattle.std.proofs.Common.{◌≡◌, ◌+◌, ◌≤◌}
+use Rattle.std.proofs.Common.{◌≡◌, ◌+◌}
 use Rattle.frames.specs.Areas.{written}
 use Rattle.frames.specs.Digits.{hexadecimal}
 use Rattle.frames.proofs.digits.put_number.Given as goal

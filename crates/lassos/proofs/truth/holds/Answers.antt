@@ -1,4 +1,4 @@
-use Rattle.std.proofs.Common.{◌<◌, length, get_or, arith}
+use Rattle.std.proofs.Common.{length, get_or, arith}
 use Rattle.properties.specs.Meaning.{meaning}
 use Rattle.lassos.specs.Truths.{round}
 use Rattle.lassos.proofs.Nodes.{known_more, root_decided}

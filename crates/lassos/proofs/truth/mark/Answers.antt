@@ -1,4 +1,4 @@
-use Rattle.std.proofs.Common.{length, arith}
+use Rattle.std.proofs.Common.{arith}
 use Rattle.lassos.proofs.Nodes.{mark_more}
 use Rattle.lassos.proofs.truth.mark.Goals as goal
 

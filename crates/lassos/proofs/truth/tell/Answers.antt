@@ -18,7 +18,7 @@ returns-in-Apply g c =
     (λ i. (g.M.Model.marking c.args.model.now).label (get_or c.args.list.now i 0)) (length c.args.list.now) c.args.a c.args.bits.now (omega arith) (omega arith) c.requires.known
     c.fulfil.new.sets c.fulfil.ensures
 
-pub returns-in-default : goal.returns-in-default
-returns-in-default g c =
+pub returns-in_default : goal.returns-in_default
+returns-in_default g c =
     tells_marked c.args.property.now (λ i. (g.M.Model.marking c.args.model.now).label (get_or c.args.list.now i 0)) (length c.args.list.now) c.args.a c.args.k c.args.bits.now
-    (get_or c.args.property.now.rows.nodes c.args.k True) (omega arith) refl (omega arith) c.requires.known (simple_from _ c.in-default.not-Apply) c.mark.new.sets c.mark.ensures
+    (get_or c.args.property.now.rows.nodes c.args.k True) (omega arith) refl (omega arith) c.requires.known (simple_from _ c.in_default.not-Apply) c.mark.new.sets c.mark.ensures

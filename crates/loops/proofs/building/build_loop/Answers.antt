@@ -7,8 +7,8 @@ use Rattle.loops.proofs.Joins.{joins}
 use Rattle.loops.proofs.Rooms.{low_part}
 use Rattle.loops.proofs.building.build_loop.Goals as goal
 
-pub all-rounds-at-requires : goal.all-rounds-at-requires
-all-rounds-at-requires g c =
+pub all_rounds-at-requires : goal.all_rounds-at-requires
+all_rounds-at-requires g c =
     let m : Kripke = model_in g.M.Graph.states g.M.Graph.edge g.M.Model.marking c.args.o.now.inside in
     let f = property_in c.args.o.now.inside in
     let n : ℕ = vertices m f in
@@ -24,10 +24,10 @@ returns g c =
     let m : Kripke = model_in g.M.Graph.states g.M.Graph.edge g.M.Model.marking c.args.o.now.inside in
     let f = property_in c.args.o.now.inside in
     let G : ℕ → Bool = set_in c.args.o.now.inside in
-    let rounds = c.all-rounds-at.ensures in
-    let visits = c.visit-all-stands.ensures in
+    let rounds = c.all_rounds-at.ensures in
+    let visits = c.visit_all-stands.ensures in
     record {
-      built = joins m f c.requires.setting.formed G c.args.x c.requires.setting.vertex c.requires.setting.tested.inside c.all-rounds-at.result c.close.result c.visit-all-stands.result c.args.words.now c.all-rounds-at.new.words c.visit-all-stands.new.words c.close.new.words rounds.longer rounds.rest visits.visited visits.further.0 visits.further.1 visits.rest c.close.ensures.closed;
+      built = joins m f c.requires.setting.formed G c.args.x c.requires.setting.vertex c.requires.setting.tested.inside c.all_rounds-at.result c.close.result c.visit_all-stands.result c.args.words.now c.all_rounds-at.new.words c.visit_all-stands.new.words c.close.new.words rounds.longer rounds.rest visits.visited visits.further.0 visits.further.1 visits.rest c.close.ensures.closed;
       parents = c.close.ensures.parents ∙ visits.parents ∙ rounds.parents;
       queue = c.close.ensures.queue ∙ visits.queue ∙ rounds.queue;
     }

@@ -4,39 +4,39 @@ use Rattle.properties.specs.Meaning.{meaning}
 use Rattle.tableau.specs.Images.{image_of}
 use Rattle.loops.proofs.Tables.{Tabled, carried_is, tabled_more, tabled_none, target, target_is}
 use Rattle.loops.proofs.carrying.carried.Goals as goal
-use Rattle.loops.proofs.carrying.carried.Goals.{then-bit-set, else-bit-set}
+use Rattle.loops.proofs.carrying.carried.Goals.{then-bit_set, else-bit_set}
 
 pub loop-q-init : goal.loop-q-init
-loop-q-init c = (refl, tabled_none (meaning c.args.plan.now.property) c.args.label c.args.mask c.args.k c.node-width-states.result c.finals-finals.result (replicate 8 0))
+loop-q-init c = (refl, tabled_none (meaning c.args.plan.now.property) c.args.label c.args.mask c.args.k c.node_width-states.result c.finals-finals.result (replicate 8 0))
 
 pub lowest-r-requires : goal.lowest-r-requires
-lowest-r-requires c = let small : c.node-width-states.result ≤ 8 = c.node-width-states.ensures.small in (omega arith, omega arith)
+lowest-r-requires c = let small : c.node_width-states.result ≤ 8 = c.node_width-states.ensures.small in (omega arith, omega arith)
 
 pub loop-q-preserved : goal.loop-q-preserved
 loop-q-preserved c =
     let f = meaning c.args.plan.now.property in
-    let states : ℕ = c.node-width-states.result in
-    let small : states ≤ 8 = c.node-width-states.ensures.small in
+    let states : ℕ = c.node_width-states.result in
+    let small : states ≤ 8 = c.node_width-states.ensures.small in
     let long : length c.loop-q.to ≡ 8 = c.loop-q.invariant.0 in
     let room : c.loop-q.q < length c.loop-q.to = omega arith in
-    let chosen : c.if-bit-set.to ≡ cond c.bit-set.result states c.lowest-r.result = elim c.if-bit-set.branch [
-      | then-bit-set w ↦ w.to-is ∙ sym (ap (λ (b : Bool). cond b states c.lowest-r.result) w.if-bit-set.true)
-      | else-bit-set w ↦ w.to-is ∙ sym (ap (λ (b : Bool). cond b states c.lowest-r.result) w.if-bit-set.false)
+    let chosen : c.if-bit_set.to ≡ cond c.bit_set.result states c.lowest-r.result = elim c.if-bit_set.branch [
+      | then-bit_set w ↦ w.to-is ∙ sym (ap (λ (b : Bool). cond b states c.lowest-r.result) w.if-bit_set.true)
+      | else-bit_set w ↦ w.to-is ∙ sym (ap (λ (b : Bool). cond b states c.lowest-r.result) w.if-bit_set.false)
     ] in
-    let goes : c.if-bit-set.to ≡ target f c.args.label c.args.mask c.args.k states c.finals-finals.result c.loop-q.q =
-    target_is f c.args.label c.args.mask c.args.k states c.finals-finals.result c.loop-q.q c.onward-onward.result c.lowest-r.result c.if-bit-set.to c.bit-set.result
-    c.onward-onward.ensures c.lowest-r.ensures.is c.bit-set.ensures chosen in (
-      length-set c.loop-q.to c.loop-q.q c.if-bit-set.to ∙ long,
-      tabled_more f c.args.label c.args.mask c.args.k states c.finals-finals.result c.loop-q.q c.if-bit-set.to c.loop-q.to room c.loop-q.invariant.1 goes,
+    let goes : c.if-bit_set.to ≡ target f c.args.label c.args.mask c.args.k states c.finals-finals.result c.loop-q.q =
+    target_is f c.args.label c.args.mask c.args.k states c.finals-finals.result c.loop-q.q c.onward-onward.result c.lowest-r.result c.if-bit_set.to c.bit_set.result
+    c.onward-onward.ensures c.lowest-r.ensures.is c.bit_set.ensures chosen in (
+      length-set c.loop-q.to c.loop-q.q c.if-bit_set.to ∙ long,
+      tabled_more f c.args.label c.args.mask c.args.k states c.finals-finals.result c.loop-q.q c.if-bit_set.to c.loop-q.to room c.loop-q.invariant.1 goes,
     )
 
 pub returns : goal.returns
 returns c =
     let f = meaning c.args.plan.now.property in
-    let states : ℕ = c.node-width-states.result in
-    let small : states ≤ 8 = c.node-width-states.ensures.small in
+    let states : ℕ = c.node_width-states.result in
+    let small : states ≤ 8 = c.node_width-states.ensures.small in
     let long : length c.loop-q.to ≡ 8 = c.loop-q.invariant.0 in
     let end : c.loop-q.q ≡ states = omega arith in
     let all : Tabled f c.args.label c.args.mask c.args.k states c.finals-finals.result states c.loop-q.to = λ q lt. c.loop-q.invariant.1 q (omega arith) in
-    carried_is f c.args.label c.args.mask c.args.k c.args.due states c.finals-finals.result c.image.result c.loop-q.to c.node-width-states.ensures.is c.finals-finals.ensures (omega arith) all
+    carried_is f c.args.label c.args.mask c.args.k c.args.due states c.finals-finals.result c.image.result c.loop-q.to c.node_width-states.ensures.is c.finals-finals.ensures (omega arith) all
     (c.image.ensures ∙ ap (λ n. image_of c.args.due (take n c.loop-q.to)) (sub-zero states))

@@ -7,9 +7,9 @@ use Rattle.loops.proofs.carrying.pending.Goals.{then-due, else-due}
 pub loop-q-init : goal.loop-q-init
 loop-q-init c = pending_none (meaning c.args.plan.now.property) c.args.label c.args.mask c.args.k
 
-pub with-bit-all-requires : goal.with-bit-all-requires
-with-bit-all-requires c =
-    let small : c.node-width-q-end.result ≤ 8 = c.node-width-q-end.ensures.small in
+pub with_bit-all-requires : goal.with_bit-all-requires
+with_bit-all-requires c =
+    let small : c.node_width-q-end.result ≤ 8 = c.node_width-q-end.ensures.small in
     let low : c.loop-q.q ≤ 31 = omega arith in
     let fits : c.loop-q.all < 2 ^ c.loop-q.q = c.loop-q.invariant.0 in
     let most : 2 ^ c.loop-q.q ≤ 2 ^ 31 = pow_mono low in
@@ -19,11 +19,11 @@ pub loop-q-preserved : goal.loop-q-preserved
 loop-q-preserved c =
     let f = meaning c.args.plan.now.property in
     elim c.if-due.branch [
-      | then-due w ↦ pending_one f c.args.label c.args.mask c.args.k c.loop-q.q c.loop-q.all c.if-due.all c.due.result c.loop-q.invariant c.due.ensures w.if-due.true (w.all-is ∙ w.with-bit-all.ensures)
+      | then-due w ↦ pending_one f c.args.label c.args.mask c.args.k c.loop-q.q c.loop-q.all c.if-due.all c.due.result c.loop-q.invariant c.due.ensures w.if-due.true (w.all-is ∙ w.with_bit-all.ensures)
       | else-due w ↦ pending_other f c.args.label c.args.mask c.args.k c.loop-q.q c.loop-q.all c.if-due.all c.due.result c.loop-q.invariant c.due.ensures w.if-due.false w.all-is
     ]
 
 pub returns : goal.returns
 returns c =
-    let end : c.loop-q.q ≡ c.node-width-q-end.result = omega arith in
-    pending_all (meaning c.args.plan.now.property) c.args.label c.args.mask c.args.k c.loop-q.q c.loop-q.all (end ∙ c.node-width-q-end.ensures.is) c.loop-q.invariant.1
+    let end : c.loop-q.q ≡ c.node_width-q-end.result = omega arith in
+    pending_all (meaning c.args.plan.now.property) c.args.label c.args.mask c.args.k c.loop-q.q c.loop-q.all (end ∙ c.node_width-q-end.ensures.is) c.loop-q.invariant.1

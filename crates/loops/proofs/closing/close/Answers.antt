@@ -13,7 +13,7 @@ pub unreachable-requires : goal.unreachable-requires
 unreachable-requires g c =
     let m : Kripke = model_in g.M.Graph.states g.M.Graph.edge g.M.Model.marking c.args.o.now.inside in
     let edge = c.requires.setting.tested.edge in
-    no_edge m (property_in c.args.o.now.inside) (set_in c.args.o.now.inside) c.requires.setting.joined c.args.stands.vertex c.requires.visited.inside (λ z. c.in-default.ensures.lowest z zero-le) edge.0 edge.1 edge.2 edge.3 edge.4
+    no_edge m (property_in c.args.o.now.inside) (set_in c.args.o.now.inside) c.requires.setting.joined c.args.stands.vertex c.requires.visited.inside (λ z. c.in_default.ensures.lowest z zero-le) edge.0 edge.1 edge.2 edge.3 edge.4
 
 pub route-count-requires : goal.route-count-requires
 route-count-requires g c =
@@ -29,8 +29,8 @@ route-count-requires g c =
       reached = inner_reaches m f G c.requires.setting.joined c.in-Some.next c.args.x (inner_parts m f G c.args.stands.vertex c.in-Some.next lowest.2).1 c.requires.setting.tested.inside;
     }
 
-pub copy-states-requires : goal.copy-states-requires
-copy-states-requires g c =
+pub copy_states-requires : goal.copy_states-requires
+copy_states-requires g c =
     let m : Kripke = model_in g.M.Graph.states g.M.Graph.edge g.M.Model.marking c.args.o.now.inside in
     let n : ℕ = vertices m (property_in c.args.o.now.inside) in
     let size : ℕ = c.states-size.result in
@@ -61,13 +61,13 @@ returns g c =
     let routed = c.route-count.ensures.routed in
     let list : List ℕ = c.route-count.new.words in
     let was : List ℕ = c.args.words.now in
-    let words : List ℕ = c.copy-states.new.words in
+    let words : List ℕ = c.copy_states.new.words in
     let lowest = c.in-Some.ensures.lowest in
     let fits = walk_fits n size count (length list) (length c.args.list.now) c.states-size.ensures.is routed.within c.requires.room.0 c.route-count.auto.words in
     let room = close_fits n size count at (length was) c.states-size.ensures.is routed.some routed.within c.requires.room.1 in
     let end = close_end n size count at c.states-size.ensures.is routed.some routed.within in
     let long : at + 1 ≤ length (set was at (c.args.stands.vertex / masks)) = low_part (at + 1) (count - 1) _ (subst (λ k. at + 1 + (count - 1) ≤ k) (sym (length-set was at (c.args.stands.vertex / masks))) room.1) in
-    let put = copied m f size masks (at + 1) (at + count) count list (set was at (c.args.stands.vertex / masks)) words c.states-size.ensures.is c.size-masks.ensures.is fits end.0 long c.copy-states.ensures in
+    let put = copied m f size masks (at + 1) (at + count) count list (set was at (c.args.stands.vertex / masks)) words c.states-size.ensures.is c.size-masks.ensures.is fits end.0 long c.copy_states.ensures in
     record {
       closed = closes m f G c.args.x c.args.stands masks c.in-Some.next (at + count) (take count list) was words c.size-masks.ensures.is room.0 lowest.1 lowest.2 routed.walk put end.1 end.2;
       parents = c.route-count.ensures.parents;

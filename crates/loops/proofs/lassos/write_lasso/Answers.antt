@@ -8,10 +8,10 @@ pub returns : goal.returns
 returns g c =
     let m : Kripke = model_in g.M.Graph.states g.M.Graph.edge g.M.Model.marking c.args.o.now.inside in
     let f = property_in c.args.o.now.inside in
-    let stem = c.write-stem-stem.ensures in
-    let turns = c.build-loop-turns.ensures in
+    let stem = c.write_stem-stem.ensures in
+    let turns = c.build_loop-turns.ensures in
     record {
-      lasso = traced m f c.args.u c.args.x c.write-stem-stem.result c.build-loop-turns.result c.args.trace.now c.write-stem-stem.new.trace c.build-loop-turns.new.words c.requires.first stem.stem turns.built c.build-loop-turns.auto.words c.write-stem-stem.auto.trace c.requires.room.1;
+      lasso = traced m f c.args.u c.args.x c.write_stem-stem.result c.build_loop-turns.result c.args.trace.now c.write_stem-stem.new.trace c.build_loop-turns.new.words c.requires.first stem.stem turns.built c.build_loop-turns.auto.words c.write_stem-stem.auto.trace c.requires.room.1;
       parents = turns.parents ∙ stem.parents;
       queue = turns.queue ∙ stem.queue;
     }

@@ -19,8 +19,8 @@ route-count-requires g c =
       reached = c.requires.first.leads;
     }
 
-pub copy-states-requires : goal.copy-states-requires
-copy-states-requires g c =
+pub copy_states-requires : goal.copy_states-requires
+copy_states-requires g c =
     let m : Kripke = model_in g.M.Graph.states g.M.Graph.edge g.M.Model.marking c.args.o.now.inside in
     let n : ℕ = vertices m (property_in c.args.o.now.inside) in
     let size : ℕ = c.states-size.result in
@@ -42,10 +42,10 @@ returns g c =
     let routed = c.route-count.ensures.routed in
     let list : List ℕ = c.route-count.new.words in
     let was : List ℕ = c.args.trace.now in
-    let words : List ℕ = c.copy-states.new.words in
+    let words : List ℕ = c.copy_states.new.words in
     let fits = walk_fits n size count (length list) (length c.args.list.now) c.states-size.ensures.is routed.within c.requires.room.0 c.route-count.auto.words in
     let room = stem_fits n size count (length was) c.states-size.ensures.is routed.some routed.within c.requires.room.1 in
-    let put = copied m f size c.size.result 0 (count - 1) count list was words c.states-size.ensures.is c.size.ensures.is fits room.1 zero-le c.copy-states.ensures in
+    let put = copied m f size c.size.result 0 (count - 1) count list was words c.states-size.ensures.is c.size.ensures.is fits room.1 zero-le c.copy_states.ensures in
     record {
       stem = stem_of m f c.args.u c.args.x (count - 1) (take count list) was words routed.walk put room.2;
       parents = c.route-count.ensures.parents;

@@ -15,8 +15,8 @@ loop-k-init g c =
     let m : Kripke = model_in g.M.Graph.states g.M.Graph.edge g.M.Model.marking inside in
     (nodes_begin m (property_in inside) (set_in inside) c.args.x (index_in inside) c.args.words.now c.requires.setting, refl {a = drop 1 c.args.words.now}, refl {a = c.args.parents.now}, refl {a = c.args.queue.now})
 
-pub node-rounds-at-requires : goal.node-rounds-at-requires
-node-rounds-at-requires g c =
+pub node_rounds-at-requires : goal.node_rounds-at-requires
+node_rounds-at-requires g c =
     let inside = c.args.o.now.inside in
     let m : Kripke = model_in g.M.Graph.states g.M.Graph.edge g.M.Model.marking inside in
     let f = property_in inside in
@@ -34,11 +34,11 @@ pub loop-k-preserved : goal.loop-k-preserved
 loop-k-preserved g c =
     let inside = c.args.o.now.inside in
     let m : Kripke = model_in g.M.Graph.states g.M.Graph.edge g.M.Model.marking inside in
-    let further : c.loop-k.at ≤ c.node-rounds-at.result = c.node-rounds-at.ensures.further in (
-      subst (λ k. NodesDone m (property_in inside) (set_in inside) c.args.x k c.node-rounds-at.result c.node-rounds-at.new.words) (sym (add-one c.loop-k.k)) c.node-rounds-at.ensures.done,
-      c.node-rounds-at.ensures.rest ∙ later_rest (c.loop-k.at + 1) (c.node-rounds-at.result + 1) c.loop-k.words c.args.words.now (omega arith) c.loop-k.invariant.1,
-      ◌∙◌ {c = c.args.parents.now} c.node-rounds-at.ensures.parents c.loop-k.invariant.2,
-      ◌∙◌ {c = c.args.queue.now} c.node-rounds-at.ensures.queue c.loop-k.invariant.3,
+    let further : c.loop-k.at ≤ c.node_rounds-at.result = c.node_rounds-at.ensures.further in (
+      subst (λ k. NodesDone m (property_in inside) (set_in inside) c.args.x k c.node_rounds-at.result c.node_rounds-at.new.words) (sym (add-one c.loop-k.k)) c.node_rounds-at.ensures.done,
+      c.node_rounds-at.ensures.rest ∙ later_rest (c.loop-k.at + 1) (c.node_rounds-at.result + 1) c.loop-k.words c.args.words.now (omega arith) c.loop-k.invariant.1,
+      ◌∙◌ {c = c.args.parents.now} c.node_rounds-at.ensures.parents c.loop-k.invariant.2,
+      ◌∙◌ {c = c.args.queue.now} c.node_rounds-at.ensures.queue c.loop-k.invariant.3,
     )
 
 pub returns : goal.returns

@@ -12,36 +12,36 @@ use Rattle.loops.proofs.Bits.{bit_within, shifted}
 use Rattle.loops.proofs.Rounded.{counted, is_due, out_few, out_low, round_made, some_state, walk_there}
 use Rattle.loops.proofs.rounds.round.Goals as goal
 
-pub node-width-requires : goal.node-width-requires
-node-width-requires g c = counted c.args.o.now.inside.product.plan.now.property c.args.k c.requires.ready.node
+pub node_width-requires : goal.node_width-requires
+node_width-requires g c = counted c.args.o.now.inside.product.plan.now.property c.args.k c.requires.ready.node
 
 pub lowest-q-requires : goal.lowest-q-requires
 lowest-q-requires g c =
-    let small : c.node-width.result ≤ 8 = c.node-width.ensures.small in (
-      some_state c.args.done.due c.node-width.result
-          (node_width (property_in c.args.o.now.inside).connectives (node_at (property_in c.args.o.now.inside) c.args.k)) c.node-width.ensures.is c.requires.ready.fits c.requires.ready.some,
+    let small : c.node_width.result ≤ 8 = c.node_width.ensures.small in (
+      some_state c.args.done.due c.node_width.result
+          (node_width (property_in c.args.o.now.inside).connectives (node_at (property_in c.args.o.now.inside) c.args.k)) c.node_width.ensures.is c.requires.ready.fits c.requires.ready.some,
       omega arith,
     )
 
-pub overflow-mul-from : goal.overflow-mul-from
-overflow-mul-from g c =
+pub overflow_mul-from : goal.overflow_mul-from
+overflow_mul-from g c =
     let inside = c.args.o.now.inside in
     let plan = inside.product.plan.now in
     let m : Kripke = model_in g.M.Graph.states g.M.Graph.edge g.M.Model.marking inside in
     let few : c.args.x + (get_or plan.starts c.args.k 0 + c.lowest-q.result + 1) * c.states-size.result ≤ 16777216 =
     out_few m (property_in inside) (set_in inside) c.args.x c.args.k (index_in inside) c.args.done c.args.words.now c.requires.setting c.requires.ready c.lowest-q.result
-    c.node-width.result c.node-width.ensures.is c.lowest-q.ensures.is (get_or plan.starts c.args.k 0) c.states-size.result
+    c.node_width.result c.node_width.ensures.is c.lowest-q.ensures.is (get_or plan.starts c.args.k 0) c.states-size.result
     (plan.begins c.args.k (counted plan.property c.args.k c.requires.ready.node)) c.states-size.ensures.is in
     Fits-below {m = (get_or plan.starts c.args.k 0 + c.lowest-q.result + 1) * c.states-size.result} {n = 16777216} tt (omega arith)
 
-pub overflow-add-from-3 : goal.overflow-add-from-3
-overflow-add-from-3 g c =
+pub overflow_add-from-3 : goal.overflow_add-from-3
+overflow_add-from-3 g c =
     let inside = c.args.o.now.inside in
     let plan = inside.product.plan.now in
     let m : Kripke = model_in g.M.Graph.states g.M.Graph.edge g.M.Model.marking inside in
     Fits-below {n = 16777216} tt
     (out_few m (property_in inside) (set_in inside) c.args.x c.args.k (index_in inside) c.args.done c.args.words.now c.requires.setting c.requires.ready c.lowest-q.result
-    c.node-width.result c.node-width.ensures.is c.lowest-q.ensures.is (get_or plan.starts c.args.k 0) c.states-size.result
+    c.node_width.result c.node_width.ensures.is c.lowest-q.ensures.is (get_or plan.starts c.args.k 0) c.states-size.result
     (plan.begins c.args.k (counted plan.property c.args.k c.requires.ready.node)) c.states-size.ensures.is)
 
 pub route-count-requires : goal.route-count-requires
@@ -56,30 +56,30 @@ route-count-requires g c =
     record {
       ready = (c.requires.setting.indexed, c.requires.setting.few);
       ends = (
-        out_low m f (set_in inside) c.args.x c.args.k (index_in inside) c.args.done c.args.words.now c.requires.setting c.requires.ready c.lowest-q.result c.node-width.result
-            c.node-width.ensures.is c.lowest-q.ensures.is (get_or plan.starts c.args.k 0) c.states-size.result begins c.states-size.ensures.is,
+        out_low m f (set_in inside) c.args.x c.args.k (index_in inside) c.args.done c.args.words.now c.requires.setting c.requires.ready c.lowest-q.result c.node_width.result
+            c.node_width.ensures.is c.lowest-q.ensures.is (get_or plan.starts c.args.k 0) c.states-size.result begins c.states-size.ensures.is,
         at_ground c.args.x (mask_width f) (vertices m f) c.requires.setting.vertex,
       );
       sizes = (c.requires.finder.parents_room, c.requires.finder.queue_room, omega arith, omega arith);
       clear = (c.requires.finder.parents_clear, c.requires.finder.queue_clear);
       reached =
-          walk_there m f (set_in inside) c.args.x c.args.k (index_in inside) c.args.done c.args.words.now c.requires.setting c.requires.ready c.lowest-q.result c.node-width.result
-          c.node-width.ensures.is c.lowest-q.ensures.is (get_or plan.starts c.args.k 0) c.states-size.result begins c.states-size.ensures.is;
+          walk_there m f (set_in inside) c.args.x c.args.k (index_in inside) c.args.done c.args.words.now c.requires.setting c.requires.ready c.lowest-q.result c.node_width.result
+          c.node_width.ensures.is c.lowest-q.ensures.is (get_or plan.starts c.args.k 0) c.states-size.result begins c.states-size.ensures.is;
     }
 
-pub overflow-sub-left : goal.overflow-sub-left
-overflow-sub-left g c =
+pub overflow_sub-left : goal.overflow_sub-left
+overflow_sub-left g c =
     let inside = c.args.o.now.inside in
     let m : Kripke = model_in g.M.Graph.states g.M.Graph.edge g.M.Model.marking inside in
-    let small : c.node-width.result ≤ 8 = c.node-width.ensures.small in
-    let low : c.lowest-q.result < c.node-width.result = c.lowest-q.ensures.low in
+    let small : c.node_width.result ≤ 8 = c.node_width.ensures.small in
+    let low : c.lowest-q.result < c.node_width.result = c.lowest-q.ensures.low in
     subst (λ n. n ≤ c.args.done.due) (sym (shifted c.lowest-q.result (omega arith)))
     (bit_within c.args.done.due c.lowest-q.result
     (is_due m (property_in inside) (set_in inside) c.args.x c.args.k (index_in inside) c.args.done c.args.words.now c.requires.setting c.requires.ready c.lowest-q.result
-    c.node-width.result c.node-width.ensures.is c.lowest-q.ensures.is))
+    c.node_width.result c.node_width.ensures.is c.lowest-q.ensures.is))
 
-pub carry-along-due-requires : goal.carry-along-due-requires
-carry-along-due-requires g c =
+pub carry_along-due-requires : goal.carry_along-due-requires
+carry_along-due-requires g c =
     let size = c.states-size.ensures.is in
     let vertex = c.requires.setting.vertex in
     record {
@@ -87,8 +87,8 @@ carry-along-due-requires g c =
       sizes = (c.states-size.ensures.is, omega arith);
     }
 
-pub to-states-requires : goal.to-states-requires
-to-states-requires g c =
+pub to_states-requires : goal.to_states-requires
+to_states-requires g c =
     let size = c.states-size.ensures.is in
     let vertex = c.requires.setting.vertex in
     let inside = c.args.o.now.inside in
@@ -108,14 +108,14 @@ returns g c =
     let inside = c.args.o.now.inside in
     let plan = inside.product.plan.now in
     let m : Kripke = model_in g.M.Graph.states g.M.Graph.edge g.M.Model.marking inside in
-    let small : c.node-width.result ≤ 8 = c.node-width.ensures.small in
-    let low : c.lowest-q.result < c.node-width.result = c.lowest-q.ensures.low in
+    let small : c.node_width.result ≤ 8 = c.node_width.ensures.small in
+    let low : c.lowest-q.result < c.node_width.result = c.lowest-q.ensures.low in
     record {
       made = round_made m (property_in inside) (set_in inside) c.args.x c.args.k (index_in inside) c.args.done c.args.words.now c.requires.setting c.requires.ready c.lowest-q.result
-          c.node-width.result c.node-width.ensures.is c.lowest-q.ensures.is (get_or plan.starts c.args.k 0) c.states-size.result c.size.result c.states-room.result
-          c.route-count.result c.route-count.new.words c.to-states.new.words (plan.begins c.args.k (counted plan.property c.args.k c.requires.ready.node))
-          c.states-size.ensures.is c.size.ensures.is c.states-room.ensures.is c.route-count.auto.words c.route-count.ensures.routed c.carry-along-due.result _
-          (shifted c.lowest-q.result (omega arith)) c.carry-along-due.ensures c.to-states.ensures;
+          c.node_width.result c.node_width.ensures.is c.lowest-q.ensures.is (get_or plan.starts c.args.k 0) c.states-size.result c.size.result c.states-room.result
+          c.route-count.result c.route-count.new.words c.to_states.new.words (plan.begins c.args.k (counted plan.property c.args.k c.requires.ready.node))
+          c.states-size.ensures.is c.size.ensures.is c.states-room.ensures.is c.route-count.auto.words c.route-count.ensures.routed c.carry_along-due.result _
+          (shifted c.lowest-q.result (omega arith)) c.carry_along-due.ensures c.to_states.ensures;
       parents = c.route-count.ensures.parents;
       queue = c.route-count.ensures.queue;
     }

@@ -11,7 +11,7 @@ use Rattle.loops.proofs.visiting.visit.Goals as goal
 pub unreachable-requires : goal.unreachable-requires
 unreachable-requires g c =
     let m : Kripke = model_in g.M.Graph.states g.M.Graph.edge g.M.Model.marking c.args.o.now.inside in
-    some_fair m (property_in c.args.o.now.inside) (set_in c.args.o.now.inside) c.args.x c.args.j c.requires.setting.tested c.requires.set c.in-default.ensures
+    some_fair m (property_in c.args.o.now.inside) (set_in c.args.o.now.inside) c.args.x c.args.j c.requires.setting.tested c.requires.set c.in_default.ensures
 
 pub route-count-requires : goal.route-count-requires
 route-count-requires g c =
@@ -26,8 +26,8 @@ route-count-requires g c =
       reached = inner_reaches m f G c.requires.setting.joined c.args.stands.vertex c.in-Some.vertex c.requires.visited.inside (true_T (G c.in-Some.vertex) c.in-Some.ensures.0);
     }
 
-pub copy-states-requires : goal.copy-states-requires
-copy-states-requires g c =
+pub copy_states-requires : goal.copy_states-requires
+copy_states-requires g c =
     let m : Kripke = model_in g.M.Graph.states g.M.Graph.edge g.M.Model.marking c.args.o.now.inside in
     let n : ℕ = vertices m (property_in c.args.o.now.inside) in
     let size : ℕ = c.states-size.result in
@@ -50,11 +50,11 @@ returns g c =
     let at : ℕ = c.args.stands.at in
     let routed = c.route-count.ensures.routed in
     let list : List ℕ = c.route-count.new.words in
-    let words : List ℕ = c.copy-states.new.words in
+    let words : List ℕ = c.copy_states.new.words in
     let fits = walk_fits n size count (length list) (length c.args.list.now) c.states-size.ensures.is routed.within c.requires.room.0 c.route-count.auto.words in
     let low = member_low m f G c.args.x c.requires.setting.joined c.requires.setting.tested c.in-Some.vertex c.in-Some.ensures.0 in
     let end = walk_end n size count at c.states-size.ensures.is routed.some routed.within in
-    let put = copied m f size c.size.result at (at + count - 1) count list c.args.words.now words c.states-size.ensures.is c.size.ensures.is fits end.0 (low_part at n (length c.args.words.now) c.requires.room.1) c.copy-states.ensures in
+    let put = copied m f size c.size.result at (at + count - 1) count list c.args.words.now words c.states-size.ensures.is c.size.ensures.is fits end.0 (low_part at n (length c.args.words.now) c.requires.room.1) c.copy_states.ensures in
     record {
       visited = visits m f G c.args.x c.args.j c.args.stands c.in-Some.vertex (at + count - 1) (take count list) c.args.words.now words c.requires.visited low c.in-Some.ensures.0 c.in-Some.ensures.1 routed.walk put;
       further = (end.1, end.2);

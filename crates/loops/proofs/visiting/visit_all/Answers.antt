@@ -11,7 +11,7 @@ visit-stands-requires g c =
     let m : Kripke = model_in g.M.Graph.states g.M.Graph.edge g.M.Model.marking c.args.o.now.inside in
     let f = property_in c.args.o.now.inside in
     let inv = c.loop-j.invariant in
-    let more : c.loop-j.j < m.sets = subst (λ n. c.loop-j.j < n) c.fair-sets-j-end.ensures.is c.loop-j-test.true in
+    let more : c.loop-j.j < m.sets = subst (λ n. c.loop-j.j < n) c.fair_sets-j-end.ensures.is c.loop-j-test.true in
     record {
       setting = c.requires.setting;
       finder = finder_same m f c.args.parents.now c.loop-j.parents c.args.queue.now c.loop-j.queue inv.4 inv.5 c.requires.finder;

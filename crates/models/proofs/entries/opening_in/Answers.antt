@@ -4,10 +4,10 @@ use Rattle.models.specs.Entries.{opening}
 use Rattle.models.proofs.Lines.{fault_told, opening_head, said_told}
 use Rattle.models.proofs.entries.opening_in.Goals as goal
 
-pub returns-in-err-said : goal.returns-in-err-said
-returns-in-err-said c =
-    let p = err_from_is_err_and c.from-residual-in-err-said.result c.from-residual-in-err-said.ensures.1 in
-    rw (p.1, p.2) (fault_told opening opening_head c.args.line.now c.in-ok-digits.digits.now _ c.in-ok-digits.ensures (c.as-slice.ensures ∙ c.of-bytes.ensures) _ c.in-err-said.ensures)
+pub returns-in_err-said : goal.returns-in_err-said
+returns-in_err-said c =
+    let p = err_from_is_err_and c.from_residual-in_err-said.result c.from_residual-in_err-said.ensures.1 in
+    rw (p.1, p.2) (fault_told opening opening_head c.args.line.now c.in_ok-digits.digits.now _ c.in_ok-digits.ensures (c.as_slice.ensures ∙ c.of-bytes.ensures) _ c.in_err-said.ensures)
 
 pub returns : goal.returns
-returns c = said_told opening opening_head c.args.line.now c.in-ok-digits.digits.now _ c.in-ok-digits.ensures (c.as-slice.ensures ∙ c.of-bytes.ensures) _ c.in-ok-said.ensures
+returns c = said_told opening opening_head c.args.line.now c.in_ok-digits.digits.now _ c.in_ok-digits.ensures (c.as_slice.ensures ∙ c.of-bytes.ensures) _ c.in_ok-said.ensures

@@ -15,7 +15,7 @@ pub finishes-requires : goal.finishes-requires
 finishes-requires c =
     let fits = applied_fits c.args.plan.now c.args.k c.requires.node _ _ _ c.in-Apply.is in
     record {
-      sizes = (fits.0, (fits.1.0, fits.1.1.1.0));
+      sizes = (fits.0, (fits.1, fits.3));
       fits = applied_state c.args.plan.now c.args.k c.requires.node _ _ _ c.in-Apply.is c.args.q c.requires.state;
     }
 

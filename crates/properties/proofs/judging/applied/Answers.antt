@@ -9,13 +9,13 @@ pub loop-i-preserved : goal.loop-i-preserved
 loop-i-preserved c =
     let long = c.loop-i.invariant.1 in
     let s = take_more_set c.loop-i.operands c.loop-i.i _ (omega arith) in
-    let t = take_more c.as-slice-found.result.now c.loop-i.i 0 c.loop-i-test.true in
+    let t = take_more c.as_slice-found.result.now c.loop-i.i 0 c.loop-i-test.true in
     let same = c.loop-i.invariant.0 in
-    (s ∙ ap (λ (xs : List ℕ). xs ++ get_or c.as-slice-found.result.now c.loop-i.i 0 ∷ []) same ∙ sym t, length-set c.loop-i.operands c.loop-i.i _ ∙ long)
+    (s ∙ ap (λ (xs : List ℕ). xs ++ get_or c.as_slice-found.result.now c.loop-i.i 0 ∷ []) same ∙ sym t, length-set c.loop-i.operands c.loop-i.i _ ∙ long)
 
 pub returns : goal.returns
 returns c =
-    let e : length c.as-slice-found.result.now ≡ c.loop-i.i = omega arith in
-    let found = all_at_hand c.as-slice-found.result.now (spelt c.args.digits.now) (c.as-slice-found.ensures ∙ c.of-bytes.ensures) c.if-found-gt4.false in
+    let e : length c.as_slice-found.result.now ≡ c.loop-i.i = omega arith in
+    let found = all_at_hand c.as_slice-found.result.now (spelt c.args.digits.now) (c.as_slice-found.ensures ∙ c.of-bytes.ensures) c.if-found-gt4.false in
     ap (apply c.args.c)
-    (ap (λ n. take n c.loop-i.operands) e ∙ c.loop-i.invariant.0 ∙ take_all c.loop-i.i c.as-slice-found.result.now (omega arith) ∙ found)
+    (ap (λ n. take n c.loop-i.operands) e ∙ c.loop-i.invariant.0 ∙ take_all c.loop-i.i c.as_slice-found.result.now (omega arith) ∙ found)

@@ -1,4 +1,4 @@
-use Rattle.std.proofs.Common.{◌≡◌, ◌<◌, min, length, get_or, take, sym, ap, ◌∙◌, arith, rules}
+use Rattle.std.proofs.Common.{◌≡◌, length, take, arith, rules}
 use Rattle.std.proofs.lemmas.List.{get_or-take, length-take}
 use Rattle.properties.proofs.Verdicts.{lower_all, lower_more, lower_stop}
 use Rattle.properties.proofs.judging.lower.Goals as goal

@@ -1,4 +1,4 @@
-use Rattle.std.proofs.Common.{◌≡◌, ◌≤◌, length, take, drop}
+use Rattle.std.proofs.Common.{◌≡◌, take, drop}
 use Rattle.language.specs.Properties.{all_below}
 use Rattle.properties.proofs.judging.lower.Given as goal
 

@@ -7,7 +7,7 @@ use Rattle.properties.proofs.writing.put_application.Goals.{then-arity-lt4, else
 
 pub returns : goal.returns
 returns c =
-    let e = c.put-line.ensures in
+    let e = c.put_line.ensures in
     let size = c.if-arity-lt4.size in
     let arity = c.args.arity in
     let long : length c.args.operands ≡ 4 = search rules in

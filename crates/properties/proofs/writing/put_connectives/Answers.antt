@@ -16,7 +16,7 @@ loop-c-preserved c =
     let xs = s.connectives in
     let few = s.few_connectives in
     let lt : k < length xs = omega (arith, s.four, c.loop-c-test.true) in
-    let e = c.put-connective-place.ensures in
+    let e = c.put_connective-place.ensures in
     let near = e.near in
     (lines_wrote (flat_map connective_lines (connectives_of xs k)) (connective_lines (connective_of (get_or xs k no_row))) (flat_map connective_lines (connectives_of xs (k + 1))) (connectives_more xs k lt) c.loop-c.invariant.0 (record { area = e.area; next = e.next }), omega (arith, c.loop-c.invariant.1))
 

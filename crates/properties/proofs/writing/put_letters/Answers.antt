@@ -12,7 +12,7 @@ loop-a-preserved c =
     let row = c.args.row in
     let a = c.loop-a.a in
     let f : ℕ → List (List ℕ) = λ b. each row.states (λ r. transition_line (connective_of row) c.args.p b r) in
-    let e = c.put-targets-place.ensures in
+    let e = c.put_targets-place.ensures in
     (lines_wrote (each a f) (f a) (each (a + 1) f) (each_more a f) c.loop-a.invariant.0 (record { area = e.area; next = e.next }), omega (arith, c.loop-a.invariant.1, e.near))
 
 pub returns : goal.returns

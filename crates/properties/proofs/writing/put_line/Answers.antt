@@ -9,7 +9,7 @@ loop-b-init c = (none_wrote c.args.area.now c.args.at, omega arith)
 
 pub loop-b-preserved : goal.loop-b-preserved
 loop-b-preserved c =
-    let e = c.put-number-place.ensures in
+    let e = c.put_number-place.ensures in
     let before = c.loop-b.invariant.0 in
     (wrote_as (spelled_more c.args.bytes.now c.loop-b.b-index c.loop-b-test.true) (both_wrote before (record { area = e.area; next = e.next })), omega (arith, c.loop-b.invariant.1, e.next))
 

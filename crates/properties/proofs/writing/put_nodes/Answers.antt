@@ -16,7 +16,7 @@ loop-k-preserved c =
     let xs = s.nodes in
     let few = s.few_nodes in
     let lt : k < length xs = omega (arith, s.many, c.loop-k-test.true) in
-    let e = c.put-node-place.ensures in
+    let e = c.put_node-place.ensures in
     (lines_wrote (map node_line (nodes_of xs k)) (node_line (node_of (get_or xs k True)) ∷ []) (map node_line (nodes_of xs (k + 1))) (nodes_more xs k lt) c.loop-k.invariant.0 (record { area = e.area; next = e.next }), omega (arith, c.loop-k.invariant.1, e.near))
 
 pub returns : goal.returns

@@ -21,7 +21,7 @@ loop-r-preserved c =
     let one : List (List ℕ) = (0x11 ∷ p ∷ a ∷ r ∷ []) ∷ [] in
     elim c.if-row-word-eq1.branch [
       | then-row-word-eq1 w ↦
-          (let e = w.put-line-place.ensures in
+          (let e = w.put_line-place.ensures in
           let step = ap (λ (t : List (List ℕ)). each r f ++ t) (sym (transition_goes row p a r lp la lr w.if-row-word-eq1.true)) ∙ each_more r f in
           let next : Wrote c.loop-r.area c.if-row-word-eq1.area c.loop-r.place c.if-row-word-eq1.place _ = record { area = w.area-is ∙ e.area; next = w.place-is ∙ e.next } in
           (lines_wrote (each r f) one (each (r + 1) f) step c.loop-r.invariant.0 next, omega (arith, c.loop-r.invariant.1, w.place-is, e.near)))

@@ -12,7 +12,7 @@ loop-p-preserved c =
     let row = c.args.row in
     let p = c.loop-p.p in
     let f : ℕ → List (List ℕ) = λ q. each row.letters (λ a. each row.states (λ r. transition_line (connective_of row) q a r)) in
-    let e = c.put-letters-place.ensures in
+    let e = c.put_letters-place.ensures in
     (lines_wrote (each p f) (f p) (each (p + 1) f) (each_more p f) c.loop-p.invariant.0 (record { area = e.area; next = e.next }), omega (arith, c.loop-p.invariant.1, e.near))
 
 pub returns : goal.returns

@@ -14,7 +14,7 @@ loop-w-preserved c =
     let words = c.args.words.now in
     let i = c.loop-w.w-index in
     let lt : i < length words = omega arith in
-    let e = c.put-word-place.ensures in
+    let e = c.put_word-place.ensures in
     (wrote_as (words_more words i lt) (both_wrote c.loop-w.invariant.0 (record { area = e.area; next = e.next })), omega (arith, c.loop-w.invariant.1, e.next))
 
 pub returns : goal.returns

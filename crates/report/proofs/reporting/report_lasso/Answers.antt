@@ -18,8 +18,8 @@ returns c =
     let area = c.args.area.now in
     let text = broken_text c.args.stem c.args.turns lasso in
     let size = broken_length c.args.stem c.args.turns lasso in
-    let e = c.put-broken.ensures in
+    let e = c.put_broken.ensures in
     record {
-      answer = told_fits text area c.put-broken.result (omega arith) (omega arith);
+      answer = told_fits text area c.put_broken.result (omega arith) (omega arith);
       area = e.area ∙ filled_fits text area (omega arith);
     }

@@ -8,7 +8,7 @@ pub loop-k-preserved : goal.loop-k-preserved
 loop-k-preserved c =
     let lt : c.loop-k.k < 7 = omega arith in
     let within : 2 * c.loop-k.k + 1 < length c.args.digits.now = omega arith in (
-      head_more c.loop-k.head c.args.digits.now c.loop-k.k c.byte-of.result c.loop-k.invariant.1 lt within c.byte-of.ensures c.loop-k.invariant.0,
+      head_more c.loop-k.head c.args.digits.now c.loop-k.k c.byte_of.result c.loop-k.invariant.1 lt within c.byte_of.ensures c.loop-k.invariant.0,
       length-set c.loop-k.head c.loop-k.k _ ∙ c.loop-k.invariant.1,
     )
 

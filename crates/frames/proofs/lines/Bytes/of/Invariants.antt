@@ -1,4 +1,4 @@
-use Rattle.std.proofs.Common.{◌≡◌, ◌≤◌, length, take}
+use Rattle.std.proofs.Common.{◌≡◌, length, take}
 use Rattle.frames.specs.Lines.{spelt}
 use Rattle.frames.proofs.lines.Bytes.of.Given as goal
 

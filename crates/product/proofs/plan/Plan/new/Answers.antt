@@ -5,12 +5,12 @@ use Rattle.properties.specs.Meaning.{meaning}
 use Rattle.product.proofs.Nodes.{narrow_at}
 use Rattle.product.proofs.plan.Plan.new.Goals as goal
 
-pub overflow-add-at : goal.overflow-add-at
-overflow-add-at c =
+pub overflow_add-at : goal.overflow_add-at
+overflow_add-at c =
     let n = narrow_at c.args.property.now c.loop-k.k c.loop-k-test.true in
     let e = c.loop-k.invariant.0 in
-    let w = c.node-width-at.ensures.is in
-    let small : c.loop-k.at + c.node-width-at.result ≤ 12 = omega arith in
+    let w = c.node_width-at.ensures.is in
+    let small : c.loop-k.at + c.node_width-at.result ≤ 12 = omega arith in
     search rules
 
 pub loop-k-preserved : goal.loop-k-preserved
@@ -20,14 +20,14 @@ loop-k-preserved c =
     let few : c.args.property.now.rows.count ≤ 32 = c.args.property.now.rows.few_nodes in
     let long : length c.loop-k.starts ≡ 32 = c.loop-k.invariant.2 in
     let lt : k < length c.loop-k.starts = omega arith in (
-      ap₂ ◌+◌ c.loop-k.invariant.0 c.node-width-at.ensures.is ∙ ap (start_of f) (sym (add-one k)),
+      ap₂ ◌+◌ c.loop-k.invariant.0 c.node_width-at.ensures.is ∙ ap (start_of f) (sym (add-one k)),
       below_more _ _
           (λ j lj. let ne : j ≢ k = omega arith in get_or-set_other c.loop-k.starts k j c.loop-k.at 0 ne ∙ c.loop-k.invariant.1 j lj)
           (get_or-set_same c.loop-k.starts k c.loop-k.at 0 lt ∙ c.loop-k.invariant.0),
       length-set c.loop-k.starts k c.loop-k.at ∙ long,
     )
 
-pub invariant-of-result : goal.invariant-of-result
-invariant-of-result c =
+pub invariant_of-result : goal.invariant_of-result
+invariant_of-result c =
     let all : c.args.property.now.rows.count ≤ c.loop-k.k = c.loop-k-test.false in
-    (c.loop-k.invariant.2, (λ k lt. c.loop-k.invariant.1 k (omega arith), tt))
+    record { long = c.loop-k.invariant.2; begins = λ k lt. c.loop-k.invariant.1 k (omega arith) }

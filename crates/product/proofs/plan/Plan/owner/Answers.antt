@@ -9,8 +9,8 @@ loop-k-init c = owner_last c.args.self.now c.args.i c.requires
 pub loop-k-preserved : goal.loop-k-preserved
 loop-k-preserved c = owner_down c.args.self.now c.args.i c.loop-k.k c.loop-k.invariant.0 c.loop-k-test.true
 
-pub overflow-sub-k-in-loop-k : goal.overflow-sub-k-in-loop-k
-overflow-sub-k-in-loop-k c = owner_some c.args.self.now c.args.i c.loop-k.k c.loop-k.invariant.0 c.loop-k-test.true
+pub overflow_sub-k-in-loop-k : goal.overflow_sub-k-in-loop-k
+overflow_sub-k-in-loop-k c = owner_some c.args.self.now c.args.i c.loop-k.k c.loop-k.invariant.0 c.loop-k-test.true
 
 pub returns : goal.returns
 returns c =

@@ -1,4 +1,4 @@
-use Rattle.std.proofs.Common.{◌≡◌, refl, ap, ◌∙◌}
+use Rattle.std.proofs.Common.{refl}
 use Rattle.frames.specs.Frames.Frame.{end}
 use Rattle.properties.specs.Meaning.{of_draft}
 use Rattle.properties.proofs.Verdicts.{accepted, end_early, end_order, head_ended, order_fault}

@@ -1,4 +1,4 @@
-use Rattle.std.proofs.Common.{◌≡◌, ◌+◌, true, false, sym, ap, ◌∙◌}
+use Rattle.std.proofs.Common.{◌+◌, true, false, sym, ap, ◌∙◌}
 use Rattle.std.proofs.lemmas.Bool.{not_from_false}
 use Rattle.frames.specs.Frames.Frame.{node}
 use Rattle.properties.specs.Meaning.{of_draft}
@@ -13,21 +13,21 @@ returns-then-not-fits c =
     (not_from_false d.ended c.if-self.false)
     (node_range d.rows (node_of c.args.row) false c.if-not-fits.ensures)
 
-pub returns-then-not-within-limits : goal.returns-then-not-within-limits
-returns-then-not-within-limits c =
+pub returns-then-not-within_limits : goal.returns-then-not-within_limits
+returns-then-not-within_limits c =
     let d = c.args.self.now in
-    let w = node_limits d.rows (node_of c.args.row) (d.rows.width + c.width-of.result) (ap (λ v. d.rows.width + v) c.width-of.ensures.is) in
+    let w = node_limits d.rows (node_of c.args.row) (d.rows.width + c.width_of.result) (ap (λ v. d.rows.width + v) c.width_of.ensures.is) in
     limit_fault c.args.line (of_draft d) (node (node_of c.args.row))
     (not_from_false d.ended c.if-self.false)
     (node_range d.rows (node_of c.args.row) true c.if-not-fits.ensures)
-    (w ∙ sym c.if-not-within-limits.ensures)
+    (w ∙ sym c.if-not-within_limits.ensures)
 
 pub returns : goal.returns
 returns c =
     let d = c.args.self.now in
-    let w = node_limits d.rows (node_of c.args.row) (d.rows.width + c.width-of.result) (ap (λ v. d.rows.width + v) c.width-of.ensures.is) in
+    let w = node_limits d.rows (node_of c.args.row) (d.rows.width + c.width_of.result) (ap (λ v. d.rows.width + v) c.width_of.ensures.is) in
     accepted c.args.line (of_draft d) (node (node_of c.args.row)) _
     (not_from_false d.ended c.if-self.false)
     (node_range d.rows (node_of c.args.row) true c.if-not-fits.ensures)
-    (w ∙ sym c.if-not-within-limits.ensures)
-    (draft_with c.with-node.result false d.ended _ c.with-node.ensures (sym c.if-self.false))
+    (w ∙ sym c.if-not-within_limits.ensures)
+    (draft_with c.with_node.result false d.ended _ c.with_node.ensures (sym c.if-self.false))

@@ -1,4 +1,4 @@
-use Rattle.std.proofs.Common.{◌≡◌, ℕ, ◌-◌, false, set, sym, refl, ap, ◌∙◌, inl, inr}
+use Rattle.std.proofs.Common.{ℕ, ◌-◌, false, set, sym, refl, ap, ◌∙◌, inl, inr}
 use Rattle.language.specs.Properties.{connective_at}
 use Rattle.language.specs.Reading.{moving}
 use Rattle.frames.specs.Frames.Frame.{transition}
@@ -33,9 +33,9 @@ returns c =
     let d = c.args.self.now in
     let f = transition c.args.p c.args.a c.args.r in
     let n = length_connectives d.rows in
-    let grown = c.with-move.ensures ∙ ap (λ (k : ℕ). record { connectives = set (of_rows d.rows).connectives (k - 1) (moving c.args.p c.args.a c.args.r (connective_at (of_rows d.rows).connectives (k - 1))); nodes = (of_rows d.rows).nodes }) (sym n) in
+    let grown = c.with_move.ensures ∙ ap (λ (k : ℕ). record { connectives = set (of_rows d.rows).connectives (k - 1) (moving c.args.p c.args.a c.args.r (connective_at (of_rows d.rows).connectives (k - 1))); nodes = (of_rows d.rows).nodes }) (sym n) in
     accepted c.args.line (of_draft d) f _
     (move_order d c.if-self.false c.if-self-gt0.false c.if-self-eq0.false)
     (move_in d.rows c.if-self-eq0.false c.args.p c.args.a c.args.r c.if-p-latest.false c.if-a-latest.false c.if-r-latest.false)
     refl
-    (draft_with c.with-move.result false d.ended _ grown (sym c.if-self.false))
+    (draft_with c.with_move.result false d.ended _ grown (sym c.if-self.false))

@@ -1,9 +1,7 @@
-use Rattle.std.proofs.Common.{◌≡◌, ◌<◌, length, drop, Ok, Err, sym, ◌∙◌, arith}
+use Rattle.std.proofs.Common.{◌<◌, length, drop, sym, ◌∙◌, arith}
 use Rattle.std.proofs.lemmas.List.{length-drop}
 use Rattle.std.proofs.lemmas.Result.{err_from_is_err_and}
 use Rattle.std.proofs.lemmas.Bool.{cond-false, cond-true}
-use Rattle.frames.specs.Borrowed.{meant as said}
-use Rattle.language.specs.Reading.{read}
 use Rattle.language.proofs.Forms.{well_formed}
 use Rattle.properties.specs.Meaning.{of_draft, of_rows}
 use Rattle.properties.proofs.Readings.{all_read, decided_by, frame_refused, line_refused, line_size, line_taken, too_long_read}
@@ -15,35 +13,35 @@ returns-then-text-gt65536 c =
     let e = too_long_read c.args.text.now c.if-text-gt65536.true in
     record { spells = e; decided = decided_by c.args.text.now _ e }
 
-pub returns-in-err-frame : goal.returns-in-err-frame
-returns-in-err-frame c =
-    let p = err_from_is_err_and c.from-residual.result c.from-residual.ensures.1 in
+pub returns-in_err-frame : goal.returns-in_err-frame
+returns-in_err-frame c =
+    let p = err_from_is_err_and c.from_residual.result c.from_residual.ensures.1 in
     let t = drop c.loop-at.at c.args.text.now in
     let left : 0 < length t = simp length-drop (omega arith) in
-    let e = frame_refused c.loop-at.number (of_draft c.loop-at.draft) t _ left c.in-err-frame.ensures ∙ sym c.loop-at.invariant.2 in
+    let e = frame_refused c.loop-at.number (of_draft c.loop-at.draft) t _ left c.in_err-frame.ensures ∙ sym c.loop-at.invariant.2 in
     rw (p.1, p.2) (record { spells = e; decided = decided_by c.args.text.now _ e })
 
-pub returns-in-err-draft : goal.returns-in-err-draft
-returns-in-err-draft c =
-    let p = err_from_is_err_and c.from-residual-in-err-draft.result c.from-residual-in-err-draft.ensures.1 in
+pub returns-in_err-draft : goal.returns-in_err-draft
+returns-in_err-draft c =
+    let p = err_from_is_err_and c.from_residual-in_err-draft.result c.from_residual-in_err-draft.ensures.1 in
     let t = drop c.loop-at.at c.args.text.now in
-    let e = line_refused c.loop-at.number (of_draft c.loop-at.draft) t _ c.in-ok-frame.size _ c.in-ok-frame.ensures c.in-err-draft.ensures ∙ sym c.loop-at.invariant.2 in
+    let e = line_refused c.loop-at.number (of_draft c.loop-at.draft) t _ c.in_ok-frame.size _ c.in_ok-frame.ensures c.in_err-draft.ensures ∙ sym c.loop-at.invariant.2 in
     rw (p.1, p.2) (record { spells = e; decided = decided_by c.args.text.now _ e })
 
-pub overflow-add-at : goal.overflow-add-at
-overflow-add-at c =
-    let s = line_size c.loop-at.number c.loop-at.at c.args.text.now _ c.in-ok-frame.size c.loop-at.invariant.0 c.in-ok-frame.ensures in
+pub overflow_add-at : goal.overflow_add-at
+overflow_add-at c =
+    let s = line_size c.loop-at.number c.loop-at.at c.args.text.now _ c.in_ok-frame.size c.loop-at.invariant.0 c.in_ok-frame.ensures in
     omega (arith, s.1)
 
 pub loop-at-smaller : goal.loop-at-smaller
 loop-at-smaller c =
-    let s = line_size c.loop-at.number c.loop-at.at c.args.text.now _ c.in-ok-frame.size c.loop-at.invariant.0 c.in-ok-frame.ensures in
+    let s = line_size c.loop-at.number c.loop-at.at c.args.text.now _ c.in_ok-frame.size c.loop-at.invariant.0 c.in_ok-frame.ensures in
     omega (arith, s.0, s.1)
 
 pub loop-at-preserved : goal.loop-at-preserved
 loop-at-preserved c =
-    let s = line_size c.loop-at.number c.loop-at.at c.args.text.now _ c.in-ok-frame.size c.loop-at.invariant.0 c.in-ok-frame.ensures in
-    let e = c.loop-at.invariant.2 ∙ line_taken c.loop-at.number c.loop-at.at (of_draft c.loop-at.draft) (of_draft c.in-ok-draft.draft) c.args.text.now _ c.in-ok-frame.size c.in-ok-frame.ensures c.in-ok-draft.ensures in
+    let s = line_size c.loop-at.number c.loop-at.at c.args.text.now _ c.in_ok-frame.size c.loop-at.invariant.0 c.in_ok-frame.ensures in
+    let e = c.loop-at.invariant.2 ∙ line_taken c.loop-at.number c.loop-at.at (of_draft c.loop-at.draft) (of_draft c.in_ok-draft.draft) c.args.text.now _ c.in_ok-frame.size c.in_ok-frame.ensures c.in_ok-draft.ensures in
     (s.1, omega (arith, s.0, c.loop-at.invariant.1), e)
 
 pub returns-then-not-draft : goal.returns-then-not-draft
@@ -51,10 +49,10 @@ returns-then-not-draft c =
     let e = sym (c.loop-at.invariant.2 ∙ all_read c.loop-at.number (of_draft c.loop-at.draft) c.loop-at.at c.args.text.now c.loop-at-test.false ∙ cond-false c.loop-at.draft.ended _ _ c.if-not-draft.true) in
     record { spells = e; decided = decided_by c.args.text.now _ e }
 
-pub invariant-of-result : goal.invariant-of-result
-invariant-of-result c =
+pub invariant_of-result : goal.invariant_of-result
+invariant_of-result c =
     let e = c.loop-at.invariant.2 ∙ all_read c.loop-at.number (of_draft c.loop-at.draft) c.loop-at.at c.args.text.now c.loop-at-test.false ∙ cond-true c.loop-at.draft.ended _ _ c.if-not-draft.false in
-    (may_store c.loop-at.draft.rows (well_formed c.args.text.now (of_rows c.loop-at.draft.rows) e), tt)
+    record { fit = may_store c.loop-at.draft.rows (well_formed c.args.text.now (of_rows c.loop-at.draft.rows) e) }
 
 pub returns : goal.returns
 returns c =

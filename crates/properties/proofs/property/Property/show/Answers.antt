@@ -11,10 +11,10 @@ returns-then-size-area c =
     let p = c.args.self.now in
     let text = canonical (meaning p) in
     let area = c.args.area.now in
-    let e = c.put-property.ensures in
+    let e = c.put_property.ensures in
     record {
-      answer = told_fits text area c.put-property.result e.next (omega (arith, c.shown-length-size.ensures, c.if-size-area.true));
-      area = e.area ∙ filled_fits text area (omega (arith, c.shown-length-size.ensures, c.if-size-area.true));
+      answer = told_fits text area c.put_property.result e.next (omega (arith, c.shown_length-size.ensures, c.if-size-area.true));
+      area = e.area ∙ filled_fits text area (omega (arith, c.shown_length-size.ensures, c.if-size-area.true));
       back = reads_back (meaning p) (formed p);
     }
 
@@ -24,7 +24,7 @@ returns-else-size-area c =
     let text = canonical (meaning p) in
     let area = c.args.area.now in
     record {
-      answer = told_short text area (omega (arith, c.shown-length-size.ensures, c.if-size-area.false));
-      area = filled_short text area (omega (arith, c.shown-length-size.ensures, c.if-size-area.false));
+      answer = told_short text area (omega (arith, c.shown_length-size.ensures, c.if-size-area.false));
+      area = filled_short text area (omega (arith, c.shown_length-size.ensures, c.if-size-area.false));
       back = reads_back (meaning p) (formed p);
     }

@@ -1,4 +1,4 @@
-use Rattle.std.proofs.Common.{◌≡◌, ◌+◌, ◌*◌, ◌^◌, ◌≤◌, length, get_or, refl, ap, ◌∙◌, arith, rules}
+use Rattle.std.proofs.Common.{◌≡◌, ◌+◌, ◌*◌, length, get_or, refl, ap, ◌∙◌, arith, rules}
 use lib.Bits.{bit_or}
 use Rattle.std.proofs.lemmas.Nat.{one_shl}
 use Rattle.properties.specs.Views.{connective_of}

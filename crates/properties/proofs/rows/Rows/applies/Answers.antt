@@ -1,4 +1,4 @@
-use Rattle.std.proofs.Common.{◌≡◌, min, length, take, sym, ◌∙◌, arith, rules}
+use Rattle.std.proofs.Common.{◌≡◌, length, take, arith, rules}
 use Rattle.std.proofs.lemmas.List.{length-take}
 use Rattle.properties.proofs.Verdicts.{applies_by, applies_other, applies_out}
 use Rattle.properties.proofs.rows.Rows.applies.Goals as goal
