@@ -51,7 +51,7 @@ for _ in range(4000):
     elif r<.9: cases.append(t+'|pair')
     elif r<.95: cases.append(t+'|clamp %d %d'%(random.randrange(4),random.randrange(4)))
     else: cases.append(t+'|deep %d %d'%(random.randrange(4),random.randrange(4)))
-p=subprocess.run(['target/bin/piles'],input='\n'.join(cases).encode()+b'\n',capture_output=True)
+p=subprocess.run(['crates/piles/out/piles'],input='\n'.join(cases).encode()+b'\n',capture_output=True)
 exp=[];
 for c in cases: exp+=piles.run(c)
 out=p.stdout.decode().split('\n')[:-1]

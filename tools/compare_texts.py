@@ -36,7 +36,7 @@ def gen():
     s='/'.join(ls)+('/' if random.random()<.97 else '')
     return s
 cases=[gen() for _ in range(3000)]
-p=subprocess.run(['target/bin/cases'],input='\n'.join(cases).encode()+b'\n',capture_output=True)
+p=subprocess.run(['crates/cases/out/cases'],input='\n'.join(cases).encode()+b'\n',capture_output=True)
 out=p.stdout.decode().split('\n')
 bad=0;ok=0
 for c,o in zip(cases,out):
