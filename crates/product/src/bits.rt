@@ -1,5 +1,5 @@
 //! Bits of a mask.
-ghost use Rattle.std.specs.Prelude.{◌≡◌, ◌+◌, ◌*◌, ◌^◌, ◌<◌, ◌≤◌, if◌then◌else◌};
+ghost use Rattle.std.specs.Prelude.{◌≡◌, ℕ, ◌+◌, ◌*◌, ◌^◌, ◌<◌, ◌≤◌, if◌then◌else◌};
 ghost use Rattle.language.specs.Masks.{bit};
 
 // Whether bit i is set.
@@ -24,4 +24,18 @@ pub(crate) fn join(mask: u32, i: u32, high: u32) -> u32
     ensures { result ≡ high * 2 ^ i + mask }
 {
     mask | (high << i)
+}
+
+// The mask of n bits, of which `test` says which are set.
+pub(crate) fn mask<F: Fn(u8) -> bool>(n: u8, test: F) -> u32
+    requires few { n ≤ 8 }
+    requires asked { (i : ℕ) → i < n → F.pre test i }
+    ensures fits { result < 2 ^ n }
+    ensures bits { (i : ℕ) → i < n → F.post test i (bit result i) }
+{
+    let mut all = 0;
+    for i in 0..n {
+        all = with(all, i as u32, test(i));
+    }
+    all
 }
