@@ -1,9 +1,9 @@
 -- The nodes and connectives of a stored property, by its rows.
-use Rattle.std.proofs.Common.{◌≡◌, ℕ, zero, suc, ◌+◌, ◌*◌, ◌<◌, ◌≤◌, Bool, true, ◌&&◌, ltb, ◌⊎◌, List, [], ◌∷◌, length, get_or, take, sym, ap, ◌∙◌, subst, ap₂, inl, inr, le_of_suc-le-suc, not-suc-le-zero, add-zero, zero-add, arith}
+use Rattle.std.proofs.Common.{◌≡◌, ℕ, zero, suc, ◌+◌, ◌*◌, ◌<◌, ◌≤◌, ◌≢◌, Bool, true, ◌&&◌, ltb, ◌⊎◌, List, [], ◌∷◌, length, get_or, take, sym, refl, ap, ◌∙◌, subst, ap₂, inl, inr, le_of_suc-le-suc, not-suc-le-zero, add-zero, zero-add, arith}
 use Rattle.std.proofs.lemmas.List.{get_or-map, get_or-take, length-take, length-take-le}
 use Rattle.std.proofs.lemmas.Bool.{and_parts, lt-ltb, ltb-true}
 use Rattle.frames.specs.Frames.{Node}
-use Rattle.frames.specs.Frames.Node.{proposition, negation, both, either, apply, truth}
+use Rattle.frames.specs.Frames.Node.{proposition, negation, next, both, either, apply, truth}
 use Rattle.language.specs.Masks.{bit}
 use Rattle.language.specs.Properties.{Connective, Property, connective_at, node_fits, node_width, nodes_fit}
 use Rattle.properties.specs.declared.property.Property.{Property as Stored}
@@ -73,6 +73,19 @@ module _ (p : Stored) where
   plain_at k lt (inr (inr (inl (i, e)))) P t a n b o = subst P (sym (node_is k lt (Not i) e)) (n i)
   plain_at k lt (inr (inr (inr (inl (i, j, e))))) P t a n b o = subst P (sym (node_is k lt (And i j) e)) (b i j)
   plain_at k lt (inr (inr (inr (inr (i, j, e))))) P t a n b o = subst P (sym (node_is k lt (Or i j) e)) (o i j)
+
+  -- what all nodes without a connective have, a node has whose row is no connective's
+  pub other_at : (k : ℕ) → k < p.rows.count → ((c : ℕ) (arity : ℕ) (is : List ℕ) → row k ≢ Apply c arity is) → (P : Node → Type 0) →
+      P truth → ((i : ℕ) → P (proposition i)) → ((i : ℕ) → P (negation i)) → ((i : ℕ) → row k ≡ Next i → P (next i)) → ((i j : ℕ) → P (both i j)) → ((i j : ℕ) → P (either i j)) → P (node_at f k)
+  other_at k lt other P t a n x b o = elim (row k) as (λ y. row k ≡ y → P (node_at f k)) [
+    | True ↦ λ e. subst P (sym (node_is k lt True e)) t
+    | Proposition i ↦ λ e. subst P (sym (node_is k lt (Proposition i) e)) (a i)
+    | Not i ↦ λ e. subst P (sym (node_is k lt (Not i) e)) (n i)
+    | Next i ↦ λ e. subst P (sym (node_is k lt (Next i) e)) (x i e)
+    | And i j ↦ λ e. subst P (sym (node_is k lt (And i j) e)) (b i j)
+    | Or i j ↦ λ e. subst P (sym (node_is k lt (Or i j) e)) (o i j)
+    | Apply c arity is ↦ λ e. absurd (other c arity is e)
+  ] refl
 
   -- a row passes the test of its node
   pub row_tested : (k : ℕ) → k < p.rows.count → (x : NodeRow) → row k ≡ x → node_fits f.connectives k (node_of x) ≡ true

@@ -26,16 +26,11 @@ impl Plan {
         requires { k < self.now.property.rows.count }
         ensures { result ≡ finals_of (meaning self.now.property) (node_at (meaning self.now.property) k) }
     {
-        let row = self.property.rows.nodes[k];
-        match row {
-            Node::Apply {
-                connective: c,
-                arity: _,
-                operands: _,
-            } => self.property.rows.connectives[c as usize].finals,
-            Node::Next(_) => 0,
-            Node::True | Node::Proposition(_) | Node::Not(_) | Node::And(_, _) | Node::Or(_, _) =>
-                0,
+        match self.property.rows.nodes[k] {
+            Node::Apply { connective, .. } => {
+                self.property.rows.connectives[connective as usize].finals
+            }
+            _ => 0,
         }
     }
 }
