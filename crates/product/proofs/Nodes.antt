@@ -99,9 +99,6 @@ module _ (p : Stored) where
   pub row_fit : (k : ℕ) → k < p.rows.count → (x : NodeRow) → row k ≡ x → NodeFits f k (node_of x)
   row_fit k lt x e = subst (λ (y : Node). NodeFits f k y) (node_is k lt x e) (node_fit k lt)
 
-  pub proposition_low : (k : ℕ) → k < p.rows.count → (i : ℕ) → row k ≡ Proposition i → i < 16
-  proposition_low k lt i e = ltb-true i 16 (row_tested k lt (Proposition i) e)
-
   -- the mask has room for the bits of each node
   pub narrow_at : (k : ℕ) → k < p.rows.count → start_of f k + node_width f.connectives (node_at f k) ≤ 12
   narrow_at k lt =
@@ -109,9 +106,6 @@ module _ (p : Stored) where
       let w = widths f in
       let n = (formed p).narrow in
       omega arith
-
-  pub next_narrow : (k : ℕ) → k < p.rows.count → (i : ℕ) → row k ≡ Next i → start_of f k < 12
-  next_narrow k lt i e = let b : node_width f.connectives (node_at f k) ≡ 1 = ap (node_width f.connectives) (node_is k lt (Next i) e) in let n = narrow_at k lt in omega arith
 
   -- a connective node
   module _ (k : ℕ) (lt : k < p.rows.count) (c arity : ℕ) (is : List ℕ) (e : row k ≡ Apply c arity is) where

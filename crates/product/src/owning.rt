@@ -14,11 +14,12 @@ impl Plan {
         requires { i < mask_width (meaning self.now.property) }
         ensures { Owner (meaning self.now.property) i result }
     {
-        let mut k = self.property.rows.count as usize - 1;
-        while self.starts[k] > i {
-            k -= 1;
+        for k in (1..self.property.rows.count as usize).rev() {
+            if self.starts[k] <= i {
+                return k;
+            }
         }
-        k
+        0
     }
 
     // The final states of node k, if it is a connective node.
