@@ -1,7 +1,7 @@
 -- The nodes and connectives of a stored property, by its rows.
 use Rattle.std.proofs.Common.{◌≡◌, ℕ, zero, suc, ◌+◌, ◌*◌, ◌<◌, ◌≤◌, ◌≢◌, Bool, true, ◌&&◌, ltb, ◌⊎◌, List, [], ◌∷◌, length, get_or, take, sym, refl, ap, ◌∙◌, subst, ap₂, inl, inr, le_of_suc-le-suc, not-suc-le-zero, add-zero, zero-add, arith}
 use Rattle.std.proofs.lemmas.List.{get_or-map, get_or-take, length-take, length-take-le}
-use Rattle.std.proofs.lemmas.Bool.{and_parts, lt-ltb, ltb-true}
+use Rattle.std.proofs.lemmas.Bool.{and_parts, lt-ltb}
 use Rattle.frames.specs.Frames.{Node}
 use Rattle.frames.specs.Frames.Node.{proposition, negation, next, both, either, apply, truth}
 use Rattle.language.specs.Masks.{bit}
@@ -18,10 +18,10 @@ use Rattle.logic.specs.Truth.{node_at}
 use Rattle.logic.specs.Product.{claim_of, mask_of, sat, sat_node, start_of}
 use Rattle.logic.proofs.Fits.{NodeFits, fits_at, start_fits}
 use Rattle.logic.proofs.Masks.{mask_bit}
-use Rattle.logic.proofs.Sat.{sat_unfold}
+use Rattle.logic.proofs.Sat.{claim_same, sat_node_same, sat_unfold}
 use Rattle.logic.proofs.Spread.{start_mono, widths}
 use Rattle.product.specs.Onward.{claimed_node, onward_node, onward_of}
-use Rattle.product.proofs.Same.{claim_same, onward_same, sat_node_same}
+use Rattle.product.proofs.Same.{onward_same}
 
 -- the test of all nodes, the first of which is number n, at one of them
 tests_at : (cs : List Connective) (n : ℕ) (ns : List Node) → nodes_fit cs n ns ≡ true → (k : ℕ) → k < length ns → node_fits cs (n + k) (get_or ns k truth) ≡ true
