@@ -25,12 +25,12 @@ sat_stays f lab K (suc n) k h = go (eqb k n) refl (sat_stays f lab K n k)
         ap (λ (b : Bool). elim b as (λ _. Bool) [ true ↦ sat_node f lab K (sat_below f lab K n) (start_of f n) (node_at f n) | false ↦ sat_below f lab K n k ]) e ∙ ih lower
 
 -- operands that agree make the same claim
-claim_same : (c : Connective) (g h : ℕ → Bool) (K o q : ℕ) → ((a : ℕ) → a < c.letters → g a ≡ h a) → claim_of c g K o q ≡ claim_of c h K o q
+pub claim_same : (c : Connective) (g h : ℕ → Bool) (K o q : ℕ) → ((a : ℕ) → a < c.letters → g a ≡ h a) → claim_of c g K o q ≡ claim_of c h K o q
 claim_same c g h K o q e =
     ap (λ x. bit c.finals q || x) (some_same c.letters _ _ (λ a lt. ap (λ x. x && some_below c.states (λ r. c.may q a r && bit K (o + r))) (e a lt)))
 
 -- a node says the same of operands that agree
-sat_node_same : (f : Property) (lab K o k : ℕ) (g h : ℕ → Bool) → ((j : ℕ) → j < k → g j ≡ h j) → (x : Node) → NodeFits f k x → sat_node f lab K g o x ≡ sat_node f lab K h o x
+pub sat_node_same : (f : Property) (lab K o k : ℕ) (g h : ℕ → Bool) → ((j : ℕ) → j < k → g j ≡ h j) → (x : Node) → NodeFits f k x → sat_node f lab K g o x ≡ sat_node f lab K h o x
 sat_node_same f lab K o k g h e (proposition p) fits = refl
 sat_node_same f lab K o k g h e (negation j) fits = ap not (e j fits)
 sat_node_same f lab K o k g h e (next j) fits = refl

@@ -1,9 +1,9 @@
 -- The nodes and connectives of a stored property, by its rows.
-use Rattle.std.proofs.Common.{◌≡◌, ℕ, zero, suc, ◌+◌, ◌*◌, ◌<◌, ◌≤◌, Bool, true, ◌&&◌, ltb, ◌⊎◌, List, [], ◌∷◌, length, get_or, take, sym, ap, ◌∙◌, subst, ap₂, inl, inr, le_of_suc-le-suc, not-suc-le-zero, add-zero, zero-add, arith}
+use Rattle.std.proofs.Common.{◌≡◌, ℕ, zero, suc, ◌+◌, ◌*◌, ◌<◌, ◌≤◌, ◌≢◌, Bool, true, ◌&&◌, ltb, ◌⊎◌, List, [], ◌∷◌, length, get_or, take, sym, refl, ap, ◌∙◌, subst, ap₂, inl, inr, le_of_suc-le-suc, not-suc-le-zero, add-zero, zero-add, arith}
 use Rattle.std.proofs.lemmas.List.{get_or-map, get_or-take, length-take, length-take-le}
-use Rattle.std.proofs.lemmas.Bool.{and_parts, lt-ltb, ltb-true}
+use Rattle.std.proofs.lemmas.Bool.{and_parts, lt-ltb}
 use Rattle.frames.specs.Frames.{Node}
-use Rattle.frames.specs.Frames.Node.{proposition, negation, both, either, apply, truth}
+use Rattle.frames.specs.Frames.Node.{proposition, negation, next, both, either, apply, truth}
 use Rattle.language.specs.Masks.{bit}
 use Rattle.language.specs.Properties.{Connective, Property, connective_at, node_fits, node_width, nodes_fit}
 use Rattle.properties.specs.declared.property.Property.{Property as Stored}
@@ -18,10 +18,10 @@ use Rattle.logic.specs.Truth.{node_at}
 use Rattle.logic.specs.Product.{claim_of, mask_of, sat, sat_node, start_of}
 use Rattle.logic.proofs.Fits.{NodeFits, fits_at, start_fits}
 use Rattle.logic.proofs.Masks.{mask_bit}
-use Rattle.logic.proofs.Sat.{sat_unfold}
+use Rattle.logic.proofs.Sat.{claim_same, sat_node_same, sat_unfold}
 use Rattle.logic.proofs.Spread.{start_mono, widths}
 use Rattle.product.specs.Onward.{claimed_node, onward_node, onward_of}
-use Rattle.product.proofs.Same.{claim_same, onward_same, sat_node_same}
+use Rattle.product.proofs.Same.{onward_same}
 
 -- the test of all nodes, the first of which is number n, at one of them
 tests_at : (cs : List Connective) (n : ℕ) (ns : List Node) → nodes_fit cs n ns ≡ true → (k : ℕ) → k < length ns → node_fits cs (n + k) (get_or ns k truth) ≡ true
@@ -74,6 +74,19 @@ module _ (p : Stored) where
   plain_at k lt (inr (inr (inr (inl (i, j, e))))) P t a n b o = subst P (sym (node_is k lt (And i j) e)) (b i j)
   plain_at k lt (inr (inr (inr (inr (i, j, e))))) P t a n b o = subst P (sym (node_is k lt (Or i j) e)) (o i j)
 
+  -- what all nodes without a connective have, a node has whose row is no connective's
+  pub other_at : (k : ℕ) → k < p.rows.count → ((c : ℕ) (arity : ℕ) (is : List ℕ) → row k ≢ Apply c arity is) → (P : Node → Type 0) →
+      P truth → ((i : ℕ) → P (proposition i)) → ((i : ℕ) → P (negation i)) → ((i : ℕ) → row k ≡ Next i → P (next i)) → ((i j : ℕ) → P (both i j)) → ((i j : ℕ) → P (either i j)) → P (node_at f k)
+  other_at k lt other P t a n x b o = elim (row k) as (λ y. row k ≡ y → P (node_at f k)) [
+    | True ↦ λ e. subst P (sym (node_is k lt True e)) t
+    | Proposition i ↦ λ e. subst P (sym (node_is k lt (Proposition i) e)) (a i)
+    | Not i ↦ λ e. subst P (sym (node_is k lt (Not i) e)) (n i)
+    | Next i ↦ λ e. subst P (sym (node_is k lt (Next i) e)) (x i e)
+    | And i j ↦ λ e. subst P (sym (node_is k lt (And i j) e)) (b i j)
+    | Or i j ↦ λ e. subst P (sym (node_is k lt (Or i j) e)) (o i j)
+    | Apply c arity is ↦ λ e. absurd (other c arity is e)
+  ] refl
+
   -- a row passes the test of its node
   pub row_tested : (k : ℕ) → k < p.rows.count → (x : NodeRow) → row k ≡ x → node_fits f.connectives k (node_of x) ≡ true
   row_tested k lt x e =
@@ -86,9 +99,6 @@ module _ (p : Stored) where
   pub row_fit : (k : ℕ) → k < p.rows.count → (x : NodeRow) → row k ≡ x → NodeFits f k (node_of x)
   row_fit k lt x e = subst (λ (y : Node). NodeFits f k y) (node_is k lt x e) (node_fit k lt)
 
-  pub proposition_low : (k : ℕ) → k < p.rows.count → (i : ℕ) → row k ≡ Proposition i → i < 16
-  proposition_low k lt i e = ltb-true i 16 (row_tested k lt (Proposition i) e)
-
   -- the mask has room for the bits of each node
   pub narrow_at : (k : ℕ) → k < p.rows.count → start_of f k + node_width f.connectives (node_at f k) ≤ 12
   narrow_at k lt =
@@ -96,9 +106,6 @@ module _ (p : Stored) where
       let w = widths f in
       let n = (formed p).narrow in
       omega arith
-
-  pub next_narrow : (k : ℕ) → k < p.rows.count → (i : ℕ) → row k ≡ Next i → start_of f k < 12
-  next_narrow k lt i e = let b : node_width f.connectives (node_at f k) ≡ 1 = ap (node_width f.connectives) (node_is k lt (Next i) e) in let n = narrow_at k lt in omega arith
 
   -- a connective node
   module _ (k : ℕ) (lt : k < p.rows.count) (c arity : ℕ) (is : List ℕ) (e : row k ≡ Apply c arity is) where

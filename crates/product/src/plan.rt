@@ -22,15 +22,10 @@ pub fn node_width(property: &Property, k: usize) -> u8
     ensures is { result ≡ node_width (meaning property.now).connectives (node_at (meaning property.now) k) }
     ensures small { result ≤ 8 }
 {
-    let row = property.rows.nodes[k];
-    match row {
+    match property.rows.nodes[k] {
         Node::Next(_) => 1,
-        Node::Apply {
-            connective: c,
-            arity: _,
-            operands: _,
-        } => property.rows.connectives[c as usize].states,
-        Node::True | Node::Proposition(_) | Node::Not(_) | Node::And(_, _) | Node::Or(_, _) => 0,
+        Node::Apply { connective, .. } => property.rows.connectives[connective as usize].states,
+        _ => 0,
     }
 }
 
