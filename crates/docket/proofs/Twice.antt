@@ -1,5 +1,6 @@
 -- Two checks of one property over models of one meaning, by the law.
-use Rattle.std.proofs.Common.{◌≡◌, ℕ, List, [], ◌∷◌, Some, None, Ok, Option, refl, subst, inl, inr, arith}
+use Rattle.std.proofs.Common.{◌≡◌, ℕ, List, [], ◌∷◌, Some, None, Ok, Option, Result, option_map, refl, subst, inl, inr, arith}
+use Rattle.frames.specs.declared.faults.Refusal.{Refusal}
 use Rattle.kripke.specs.Lassos.{Lasso}
 use Rattle.kripke.specs.Models.{Kripke, OneMeaning}
 use Rattle.decision.specs.Deciding.{lasso_in}
@@ -9,7 +10,7 @@ use Rattle.ledger.specs.Turns.Turn.{check}
 use Rattle.ledger.specs.Law.{Checked as CheckedIn, Lawful}
 use Rattle.ledger.specs.Runs.{View, ByLaw, Fresh}
 use Rattle.ledger.specs.Runs.Led.{new}
-use Rattle.docket.specs.Answers.{Agree, WentByLaw, as_verdict, findings, made}
+use Rattle.docket.specs.Answers.{Agree, WentByLaw, as_verdict, findings, got}
 use Rattle.docket.specs.declared.requests.Answer.{Answer}
 
 broken≢holds : {p : Lasso} → broken p ≡ holds → ⊥
@@ -41,19 +42,19 @@ three None a b fresh first second third = absurd first
 
 pub agreed :
     (d₀ d₁ d₂ d₃ : View) (m n : Kripke) → OneMeaning m n → Fresh d₀ → (o : Option Turn) → WentByLaw d₀ o d₁ →
-    (s t s' t' : ℕ) (a b : Answer) (trace trace' : List ℕ) →
-    WentByLaw d₁ (made (λ r. check m 0 s t (findings r trace)) (as_verdict a)) d₂ →
-    WentByLaw d₂ (made (λ r. check n 0 s' t' (findings r trace')) (as_verdict b)) d₃ →
+    (s t s' t' : ℕ) (a b : Result Answer Refusal) (trace trace' : List ℕ) →
+    WentByLaw d₁ (option_map (λ r. check m 0 s t (findings r trace)) (got as_verdict a)) d₂ →
+    WentByLaw d₂ (option_map (λ r. check n 0 s' t' (findings r trace')) (got as_verdict b)) d₃ →
     Agree a b
 agreed d₀ d₁ d₂ d₃ m n one fresh o first s t s' t' a b trace trace' second third = (
   λ p stem loop q.
-      let y = subst (λ x. WentByLaw d₁ (made (λ r. check m 0 s t (findings r trace)) (as_verdict x)) d₂) p second in
-      let z = subst (λ x. WentByLaw d₂ (made (λ r. check n 0 s' t' (findings r trace')) (as_verdict x)) d₃) q third in
+      let y = subst (λ x. WentByLaw d₁ (option_map (λ r. check m 0 s t (findings r trace)) (got as_verdict x)) d₂) p second in
+      let z = subst (λ x. WentByLaw d₂ (option_map (λ r. check n 0 s' t' (findings r trace')) (got as_verdict x)) d₃) q third in
       let law = three o _ _ fresh first y z in
       broken≢holds (forth m n one (law.0 ∷ []) s t s' t' holds (broken (lasso_in trace' stem loop)) law.1 refl),
   λ p stem loop q.
-      let y = subst (λ x. WentByLaw d₁ (made (λ r. check m 0 s t (findings r trace)) (as_verdict x)) d₂) q second in
-      let z = subst (λ x. WentByLaw d₂ (made (λ r. check n 0 s' t' (findings r trace')) (as_verdict x)) d₃) p third in
+      let y = subst (λ x. WentByLaw d₁ (option_map (λ r. check m 0 s t (findings r trace)) (got as_verdict x)) d₂) q second in
+      let z = subst (λ x. WentByLaw d₂ (option_map (λ r. check n 0 s' t' (findings r trace')) (got as_verdict x)) d₃) p third in
       let law = three o _ _ fresh first y z in
       broken≢holds (back m n one (law.0 ∷ []) s t s' t' (broken (lasso_in trace stem loop)) holds law.1 refl),
 )
