@@ -1,6 +1,6 @@
 -- What each call ensures is its part of what a turn does, so every turn goes by law.
-use Rattle.std.proofs.Common.{◌≡◌, ℕ, Bool, true, false, cond, ltb, List, ◌++◌, length, take, drop, Some, None, Ok, Err, Option, Result, option_map, sym, refl, ap, ◌∙◌, subst, ap₂, arith}
-use lib.Seq.{take-append_seam}
+use Rattle.std.proofs.Common.{◌≡◌, ℕ, Bool, true, false, cond, ltb, List, length, drop, Some, None, Ok, Err, Option, Result, option_map, sym, refl, ap, ◌∙◌, subst}
+use Rattle.std.proofs.Math.Seq.{take-append_seam}
 use Rattle.frames.specs.declared.faults.Refusal.{Refusal}
 use Rattle.frames.specs.declared.faults.Refusal.TheVariants.{Number}
 use Rattle.kripke.specs.Models.{Kripke}
@@ -27,11 +27,8 @@ went d e turn o r q w = subst (λ x. WentByLaw d (option_map turn x) e) (sym q) 
 
 -- Shows
 
-text_at : (n : ℕ) (text area area' : List ℕ) → n ≡ length text → area' ≡ text ++ drop (length text) area → take n area' ≡ text
-text_at n text area area' e f = ap₂ (λ (k : ℕ) (xs : List ℕ). take k xs) e f ∙ take-append_seam text (drop (length text) area)
-
 shown_text : (r : Result ℕ Refusal) (o : Option Property) (area area' : List ℕ) → ShownIn r o area area' → Shows (front r area') o
-shown_text (Ok n) (Some f) area area' w = text_at n (canonical f) area area' w.0 w.1
+shown_text (Ok n) (Some f) area area' w = cc (take-append_seam (canonical f) (drop (length (canonical f)) area))
 shown_text (Ok n) None area area' w = w
 shown_text (Err why) o area area' w = tt
 
@@ -53,9 +50,9 @@ show_went d number area area' o r q w = went d d (λ a. show number (length area
 
 -- what is found under a number is under it
 found_by : (b : Bool) (o : Option Property) (f : Property) → cond b (Err Number) (or_vacant o) ≡ Ok f → o ≡ Some f
-found_by true o f e = let z : ◌≡◌ {A = ℕ} 0 1 = cc in absurd (omega arith)
+found_by true o f e = cc
 found_by false (Some g) f e = cc
-found_by false None f e = let z : ◌≡◌ {A = ℕ} 0 1 = cc in absurd (omega arith)
+found_by false None f e = cc
 
 right_of : (m : Kripke) (f : Property) (trace trace' : List ℕ) (v : Verdict) → Verdict-right m f trace trace' v → Right m f (finding v trace')
 right_of m f trace trace' Holds w = w.0

@@ -11,6 +11,7 @@ use models::Model;
 impl Docket {
     // Takes one turn of any kind and answers it. Whatever history of turns, over models of any make, led a new docket to this one: with this
     // turn it is lawful, and leads to the docket as left.
+    // Bytes, scratch and trace stay three slices: they are lent for this one call, and a struct of them would be made anew for each.
     pub fn respond<M: Model>(
         &mut self,
         request: Request,
