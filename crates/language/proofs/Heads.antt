@@ -35,9 +35,6 @@ same true false f g = sym (f refl)
 same false true f g = g refl
 same false false f g = refl
 
-moved_along : (c : Connective) {x y z p a r : ℕ} → x ≡ p → y ≡ a → z ≡ r → c.may p a r ≡ true → c.may x y z ≡ true
-moved_along c ex ey ez h = cc
-
 module _ (c : Connective) (fit : Fit c) where
   only : (x y z : ℕ) → every c x y z ≡ true → c.may x y z ≡ true
   only x y z h =
@@ -50,7 +47,7 @@ module _ (c : Connective) (fit : Fit c) where
       let ex = eqb-true x u.0 l.0 in
       let ey = eqb-true y v.0 m.0 in
       let ez = eqb-true z w.0 m.1 in
-      moved_along c ex ey ez k.0
+      cc k.0
 
   all : (x y z : ℕ) → c.may x y z ≡ true → every c x y z ≡ true
   all x y z h =
