@@ -38,7 +38,7 @@ node_fit f k (apply c is) h =
 node_fit f k truth h = tt
 
 -- the test of all nodes, the first of which is number n, at one of them
-nodes_at : (cs : List Connective) (n : ℕ) (ns : List Node) → nodes_fit cs n ns ≡ true → (k : ℕ) → k < length ns → node_fits cs (n + k) (get_or ns k truth) ≡ true
+pub nodes_at : (cs : List Connective) (n : ℕ) (ns : List Node) → nodes_fit cs n ns ≡ true → (k : ℕ) → k < length ns → node_fits cs (n + k) (get_or ns k truth) ≡ true
 nodes_at cs n [] h k lt = absurd (not-suc-le-zero lt)
 nodes_at cs n (x ∷ ns) h zero lt = ap (λ m. node_fits cs m x) (add-zero n) ∙ (and_parts (node_fits cs n x) (nodes_fit cs (suc n) ns) h).0
 nodes_at cs n (x ∷ ns) h (suc k) lt =
