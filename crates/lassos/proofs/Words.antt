@@ -6,7 +6,7 @@ use lib.Pow.{pow-lt, high, split}
 use Rattle.std.proofs.lemmas.Nat.{and_mod, and_shr, mod_below, or_mod, or_shr}
 use Rattle.std.proofs.lemmas.List.{get_or-set_other, get_or-set_same}
 use Rattle.std.proofs.lemmas.Bool.{cases_eq, cases_lt, cases_order, eq-eqb, eqb-true, ne_eqb, or_from}
-use Rattle.language.specs.Masks.{bit}
+use Rattle.masks.specs.Masks.{bit}
 use Rattle.logic.specs.Product.{mask_of, some_below}
 use Rattle.logic.proofs.Bools.{T_and, and_T}
 use Rattle.logic.proofs.Masks.{mask_whole}

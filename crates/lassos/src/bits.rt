@@ -1,6 +1,6 @@
 //! Words as sets of small numbers.
 ghost use Rattle.std.specs.Prelude.{◌≡◌, ℕ, ◌<◌};
-ghost use Rattle.language.specs.Masks.{bit};
+ghost use Rattle.masks.specs.Masks.{bit};
 
 // Whether bit `k` of a word is set.
 pub(crate) fn has(word: u32, k: u8) -> bool

@@ -1,6 +1,6 @@
 //! Which nodes are true at each position.
 ghost use Rattle.std.specs.Prelude.{◌≡◌, ℕ, ◌<◌, length, Decides, slice_index};
-ghost use Rattle.language.specs.Masks.{bit};
+ghost use Rattle.masks.specs.Masks.{bit};
 ghost use Rattle.logic.specs.Truth.{Holds, root};
 ghost use Rattle.properties.specs.Meaning.{meaning};
 ghost use Rattle.lassos.specs.Truths.{Known, Marked, Tells, round, said};

@@ -1,6 +1,6 @@
 // Masks of states: one member more, and the image by a table.
 ghost use Rattle.std.specs.Prelude.{◌≡◌, cond, ◌+◌, ◌<◌, ◌^◌, ◌≤◌, length};
-ghost use Rattle.language.specs.Masks.{bit};
+ghost use Rattle.masks.specs.Masks.{bit};
 ghost use Rattle.tableau.specs.Images.{image_of};
 
 // Whether the bit number i of a mask is set.

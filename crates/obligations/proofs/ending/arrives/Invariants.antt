@@ -1,5 +1,5 @@
 use Rattle.std.proofs.Common.{◌≡◌, false, ◌&&◌, get_or}
-use Rattle.language.specs.Masks.{bit}
+use Rattle.masks.specs.Masks.{bit}
 use Rattle.logic.specs.Product.{some_below}
 use Rattle.properties.specs.Views.{connective_of}
 use Rattle.obligations.proofs.ending.arrives.Given as goal

@@ -1,5 +1,5 @@
 use Rattle.std.proofs.Common.{ℕ, Bool, ◌&&◌, get_or}
-use Rattle.language.specs.Masks.{bit}
+use Rattle.masks.specs.Masks.{bit}
 use Rattle.properties.specs.Views.{connective_of}
 use Rattle.product.proofs.Loops.{some_found, some_not}
 use Rattle.obligations.specs.Layers.{arrives}
