@@ -6,13 +6,9 @@ mod exploring;
 pub mod finding;
 pub mod graph;
 pub mod paths;
-pub mod reaching;
-pub mod steps;
 mod tracing;
 
 pub use cleaning::clear;
-pub use finding::find;
+pub use finding::Finder;
 pub use graph::Graph;
 pub use paths::path;
-pub use reaching::reaches;
-pub use steps::{Plain, Steps};
