@@ -76,3 +76,19 @@ join_bits low k high lt j = ⊎_elim
     (λ below. ap (λ x. eqb x 1) (bit_at_cat_low high k low j below) ∙ ap (λ b. cond b (bit low j) (bit high (j - k))) (sym (lt-ltb j k below)))
     (λ above. ap (λ x. eqb x 1) (bit_at_cat_high high k low j lt above) ∙ ap (λ b. cond b (bit low j) (bit high (j - k))) (sym (le-ltb j k above)))
     (cases_lt j k)
+
+-- a word with one bit more: as it was where it had the bit, and else by what the bit counts more
+pub put_one : (r w k : ℕ) → r + cond (bit w k) (2 ^ k) 0 ≡ w + 2 ^ k → r ≡ cond (bit w k) w (w + 2 ^ k)
+put_one r w k = go (bit w k)
+  where
+    go : (b : Bool) → r + cond b (2 ^ k) 0 ≡ w + 2 ^ k → r ≡ cond b w (w + 2 ^ k)
+    go true e = omega arith
+    go false e = omega arith
+
+-- a word below 2 ^ k with bit k as told
+pub put_top : (r w k : ℕ) (v : Bool) → w < 2 ^ k → r + cond (bit w k) (2 ^ k) 0 ≡ w + cond v (2 ^ k) 0 → r ≡ cond v 1 0 * 2 ^ k + w
+put_top r w k v lt e = go v (sym (ap (λ b. r + cond b (2 ^ k) 0) (bit_above w k k lt (omega arith))) ∙ e)
+  where
+    go : (b : Bool) → r + 0 ≡ w + cond b (2 ^ k) 0 → r ≡ cond b 1 0 * 2 ^ k + w
+    go true is = omega arith
+    go false is = omega arith
