@@ -7,7 +7,8 @@ use Rattle.masks.specs.Masks.{bit}
 use Rattle.logic.proofs.Bools.{T_or_left, T_or_right, or_T}
 use Rattle.properties.specs.declared.rows.Connective.{Connective as ConnectiveRow}
 use Rattle.lassos.specs.Sweeps.{joined, leads, room}
-use Rattle.lassos.proofs.Words.{bit-bit_or, true_T}
+use Rattle.masks.proofs.Bits.{bit-bit_or}
+use Rattle.lassos.proofs.Words.{true_T}
 
 module _ (row : ConnectiveRow) (operands : List ℕ) (here there was : ℕ) where
   -- what was there stays

@@ -1,10 +1,10 @@
 -- Bits of a word that was changed.
-use Rattle.std.proofs.Common.{◌≡◌, ℕ, zero, suc, ◌+◌, ◌-◌, ◌*◌, ◌%◌, ◌^◌, ◌<◌, ◌≤◌, Bool, true, false, cond, ◌==◌, nat_lt, eqb, max, sym, refl, ap, ◌∙◌, ⊎_elim, arith, bit_and, bit_or, w32}
+use Rattle.std.proofs.Common.{◌≡◌, ℕ, zero, suc, ◌+◌, ◌-◌, ◌*◌, ◌%◌, ◌^◌, ◌<◌, ◌≤◌, Bool, true, false, cond, ◌==◌, nat_lt, eqb, max, min, ◌&&◌, ◌||◌, sym, refl, ap, ◌∙◌, ⊎_elim, arith, bit_and, bit_or, w32}
 use Rattle.std.specs.Int.{bit_at}
 use Rattle.std.specs.Int.Bits.{or_add_and}
-use Rattle.std.proofs.lemmas.Bool.{cases_eq, cases_lt, eq-eqb, le-ltb, lt-ltb, ne_eqb}
+use Rattle.std.proofs.lemmas.Bool.{cases_eq, cases_lt, eq-eqb, le-ltb, lt-ltb, ne_eqb, or_left}
 use Rattle.std.proofs.lemmas.Nat.{and_le_l}
-use Rattle.std.proofs.lemmas.Nat.Bits.{and_pow, bit_at_above, bit_at_cat_high, bit_at_cat_low, bit_at_clear_other, bit_at_clear_same, bit_at-lt, bit_at_or, bit_at-pow_same, bit_at_set_other, bit_at_set_same, same_from_bits}
+use Rattle.std.proofs.lemmas.Nat.Bits.{and_pow, bit_at_above, bit_at_and, bit_at_cat_high, bit_at_cat_low, bit_at_clear_other, bit_at_clear_same, bit_at-lt, bit_at_or, bit_at-pow_same, bit_at-pow_other, bit_at_set_other, bit_at_set_same, same_from_bits}
 use Rattle.masks.specs.Masks.{bit}
 
 -- a word below 2 ^ k has no bit at k or above
@@ -92,3 +92,27 @@ put_top r w k v lt e = go v (sym (ap (λ b. r + cond b (2 ^ k) 0) (bit_above w k
     go : (b : Bool) → r + 0 ≡ w + cond b (2 ^ k) 0 → r ≡ cond b 1 0 * 2 ^ k + w
     go true is = omega arith
     go false is = omega arith
+
+-- a word with one more bit
+pub bit-bit_or : (w r z : ℕ) → bit (bit_or w (2 ^ r)) z ≡ (eqb z r || bit w z)
+bit-bit_or w r z = ap (λ d. eqb d 1) (bit_at_or w (2 ^ r) z) ∙ ⊎_elim
+    (λ e.
+    let set : bit_at (2 ^ r) z ≡ 1 = ap (bit_at (2 ^ r)) e ∙ bit_at-pow_same r in
+    ap (λ d. eqb (max (bit_at w z) d) 1) set ∙ eq-eqb (max (bit_at w z) 1) 1 (omega (arith, bit_at-lt w z)) ∙ sym (or_left (eqb z r) (bit w z) (eq-eqb z r e)))
+    (λ ne.
+    let same : max (bit_at w z) 0 ≡ bit_at w z = omega arith in
+    ap (λ d. eqb (max (bit_at w z) d) 1) (bit_at-pow_other r z ne) ∙ ap (λ d. eqb d 1) same ∙ ap (λ b. b || bit w z) (sym (ne_eqb z r ne)))
+    (cases_eq z r)
+
+low_and : (u v : ℕ) → u < 2 → v < 2 → eqb (min u v) 1 ≡ (eqb u 1 && eqb v 1)
+low_and zero zero lu lv = refl
+low_and zero (suc zero) lu lv = refl
+low_and (suc zero) zero lu lv = refl
+low_and (suc zero) (suc zero) lu lv = refl
+low_and zero (suc (suc v)) lu lv = absurd (omega arith)
+low_and (suc zero) (suc (suc v)) lu lv = absurd (omega arith)
+low_and (suc (suc u)) v lu lv = absurd (omega arith)
+
+-- the bits that two words have in common
+pub bit-bit_and : (x y z : ℕ) → bit (bit_and x y) z ≡ (bit x z && bit y z)
+bit-bit_and x y z = ap (λ d. eqb d 1) (bit_at_and x y z) ∙ low_and (bit_at x z) (bit_at y z) (bit_at-lt x z) (bit_at-lt y z)
