@@ -5,7 +5,7 @@ use Rattle.std.proofs.Math.Logic.{⊎_map}
 use Rattle.std.proofs.lemmas.Bool.{eq-eqb, eqb-false, eqb-true}
 use Rattle.frames.specs.Frames.{Node}
 use Rattle.frames.specs.Frames.Node.{proposition, negation, next, both, either, apply, truth}
-use Rattle.language.specs.Masks.{bit}
+use Rattle.masks.specs.Masks.{bit}
 use Rattle.language.specs.Properties.{Connective, Property, WellFormed, connective_at}
 use Rattle.logic.specs.Truth.{Fulfilled, Holds, HoldsBelow, Line, Says, later, node_at}
 use Rattle.logic.specs.Product.{claim_of, sat, sat_below, sat_node, some_below, start_of}

@@ -6,7 +6,7 @@ use Rattle.frames.specs.Frames.{Node}
 use Rattle.frames.specs.Frames.Node.{proposition, negation, next, both, either, apply, truth}
 use Rattle.kripke.specs.Models.{Kripke}
 use Rattle.kripke.specs.Lassos.{Lasso, at, position}
-use Rattle.language.specs.Masks.{bit}
+use Rattle.masks.specs.Masks.{bit}
 use Rattle.language.specs.Properties.{Property}
 use Rattle.logic.specs.Truth.{Holds, HoldsBelow, Line, Says, later, node_at, root, word_line}
 use Rattle.logic.specs.OnLassos.{lasso_line, unrolled}

@@ -4,7 +4,7 @@ use Rattle.std.proofs.lemmas.List.{get_or-map, get_or-take, length-take, length-
 use Rattle.std.proofs.lemmas.Bool.{and_parts, lt-ltb}
 use Rattle.frames.specs.Frames.{Node}
 use Rattle.frames.specs.Frames.Node.{proposition, negation, next, both, either, apply, truth}
-use Rattle.language.specs.Masks.{bit}
+use Rattle.masks.specs.Masks.{bit}
 use Rattle.language.specs.Properties.{Connective, Property, connective_at, node_fits, node_width, nodes_fit}
 use Rattle.properties.specs.declared.property.Property.{Property as Stored}
 use Rattle.properties.specs.declared.rows.Connective.{Connective as ConnectiveRow}
