@@ -4,7 +4,7 @@ ghost use Rattle.frames.specs.Frames.Node.{apply};
 ghost use Rattle.language.specs.Masks.{bit};
 ghost use Rattle.language.specs.Properties.{node_width};
 ghost use Rattle.logic.specs.Truth.{node_at};
-ghost use Rattle.models.specs.Markings.{structure};
+ghost use Rattle.models.specs.Markings.{structure_of};
 ghost use Rattle.properties.specs.Meaning.{meaning};
 ghost use Rattle.tableau.specs.Masked.{carried_along};
 ghost use Rattle.tableau.specs.Numbers.{vertices};
@@ -76,8 +76,8 @@ pub(crate) fn carry_along<M: Model>(
     due: u32,
 ) -> u32
     requires node { k < plan.now.property.rows.count }
-    requires sizes { (size ≡ vertices (structure (M.Graph.states model.now) (M.Graph.edge model.now) (M.Model.marking model.now)) (meaning plan.now.property)) × (0 < size) }
-    ensures { (c : ℕ) (is : List ℕ) → node_at (meaning plan.now.property) k ≡ apply c is → result ≡ carried_along (structure (M.Graph.states model.now) (M.Graph.edge model.now) (M.Model.marking model.now)) (meaning plan.now.property) k c is (vertices_from (structure (M.Graph.states model.now) (M.Graph.edge model.now) (M.Model.marking model.now)) (meaning plan.now.property) walk.now) due }
+    requires sizes { (size ≡ vertices (structure_of M.Model model.now) (meaning plan.now.property)) × (0 < size) }
+    ensures { (c : ℕ) (is : List ℕ) → node_at (meaning plan.now.property) k ≡ apply c is → result ≡ carried_along (structure_of M.Model model.now) (meaning plan.now.property) k c is (vertices_from (structure_of M.Model model.now) (meaning plan.now.property) walk.now) due }
 {
     let masks = plan.size();
     let mut due = due;
