@@ -6,7 +6,7 @@ ghost use Rattle.logic.specs.Truth.{node_at};
 ghost use Rattle.properties.specs.Meaning.{meaning};
 ghost use Rattle.obligations.specs.Dues.{DueOf};
 
-use crate::bits::has;
+use masks::has;
 use product::Plan;
 use properties::Node;
 

@@ -8,7 +8,7 @@ ghost use Rattle.properties.specs.Meaning.{meaning};
 ghost use Rattle.properties.specs.Views.{connective_of};
 ghost use Rattle.obligations.specs.Layers.{arrives, ends_node, finishes};
 
-use crate::bits::has;
+use masks::has;
 use product::Plan;
 use properties::{Connective, Node};
 

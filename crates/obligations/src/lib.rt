@@ -2,7 +2,6 @@
 #![tactic(auto)]
 
 pub mod accepting;
-mod bits;
 pub mod dues;
 mod ending;
 pub mod inside;

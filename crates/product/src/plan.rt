@@ -36,6 +36,7 @@ impl Plan {
     {
         let mut starts = [0u8; 32];
         let mut at: u8 = 0;
+        // By places: once the loan of iter_mut is over, a proof knows how many numbers there are and not what they are.
         for k in 0..property.rows.count as usize {
             starts[k] = at;
             at += node_width(property, k);
