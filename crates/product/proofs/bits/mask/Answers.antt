@@ -8,9 +8,9 @@ loop-i-preserved g c =
     let m : ℕ = c.loop-i.all in
     let low : m < 2 ^ i = c.loop-i.invariant.low in
     let v : Bool = c.test.result in
-    let r : ℕ = c.join-all.result in
+    let r : ℕ = c.with-all.result in
     let told : ℕ → Bool → Type 0 = goal.F-post g c.args.test in
     record {
-      low = subst (λ x. x < 2 ^ (i + 1)) (sym c.join-all.ensures.number) (more_fits i m v low);
-      told = more_told i m v low told c.test.ensures c.loop-i.invariant.told r c.join-all.ensures.number;
+      low = subst (λ x. x < 2 ^ (i + 1)) (sym c.with-all.ensures) (more_fits i m v low);
+      told = more_told i m v low told c.test.ensures c.loop-i.invariant.told r c.with-all.ensures;
     }
