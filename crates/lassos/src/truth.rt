@@ -74,7 +74,7 @@ fn tell<M: Model>(
             operands,
             ..
         } => {
-            let row = &property.rows.connectives[connective as usize];
+            let row = property.rows.connectives[connective as usize];
             let bits = Rounds {
                 list: bits,
                 stem: rounds.stem,
