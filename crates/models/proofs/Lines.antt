@@ -3,7 +3,6 @@ use Rattle.std.proofs.Common.{◌≡◌, ℕ, ◌+◌, ◌<◌, ◌≤◌, false
 use Rattle.std.proofs.lemmas.Bool.{cond-false, cond-true, le-ltb, lt-ltb, ne_eqb}
 use Rattle.frames.specs.Lines.{first_line, spelt}
 use Rattle.frames.specs.declared.faults.FrameFault.{FrameFault}
-use Rattle.frames.specs.declared.faults.FrameFault.TheVariants.{Kind}
 use Rattle.frames.specs.declared.faults.Refusal.TheVariants.{Order}
 use Rattle.models.specs.Entries.{alone, entry, framed, line_says, opening, sized}
 
