@@ -1,7 +1,10 @@
 -- A counterexample, from the tests of its parts.
-use Rattle.std.proofs.Common.{◌≡◌, ℕ, ◌+◌, ◌-◌, Bool, not, ◌↔◌, List, length, get_or, Decides, sym, ap, ◌∙◌, subst, arith}
+use Rattle.std.proofs.Common.{MatchBool, true, false, refl, ◌≡◌, ℕ, ◌+◌, ◌-◌, ◌<◌, zero-add, zero-le, Bool, not, ◌↔◌, List, length, get_or, Decides, sym, ap, ◌∙◌, subst, arith}
 use Rattle.std.proofs.lemmas.List.{get_or-drop, length-drop, take_rest}
+use Rattle.std.proofs.lemmas.Bool.{both_ways}
 use Rattle.std.proofs.lemmas.Bool.Decides.{Decides-not}
+use Rattle.std.specs.List.{AllWithin, HoldsAt, range_with_len}
+use Rattle.std.proofs.lemmas.List.FromFn.{get_or-range_with_len, length-range_with_len}
 use Rattle.kripke.specs.Lassos.{Fair, LassoOf}
 use Rattle.kripke.specs.Models.{Kripke}
 use Rattle.language.specs.Properties.{Property}
@@ -12,6 +15,14 @@ use Rattle.lassos.specs.Rounds.{AllMeet, words_from}
 use Rattle.lassos.specs.Truths.{round}
 use Rattle.lassos.specs.declared.shape.Rounds.{Rounds}
 use Rattle.lassos.proofs.Words.{T_true, true_T}
+
+-- the answer whether each number below n has P
+pub all_below : (r : Bool) (n m : ℕ) (P : ℕ → Type 0) → n ≡ m → MatchBool r (AllWithin P (range_with_len 0 n) 0 (length (range_with_len 0 n))) ((k : ℕ) × (k < length (range_with_len 0 n)) × HoldsAt (λ j. ¬ (P j)) (range_with_len 0 n) k) →
+    Decides r ((j : ℕ) → j < m → P j)
+all_below true n m P e h = (λ _ j lt. let here : j < n = omega arith in subst P (get_or-range_with_len 0 n j 0 here ∙ zero-add j) (h j 0 zero-le (omega (arith, length-range_with_len 0 n))), λ _. refl)
+all_below false n m P e (k, lt, misses) =
+    let here : k < n = omega (arith, length-range_with_len 0 n) in
+    (λ t. absurd (both_ways false refl t), λ all. absurd (misses 0 (subst P (sym (get_or-range_with_len 0 n k 0 here ∙ zero-add k)) (all k (omega arith)))))
 
 -- the word at place i from position a on
 from_at : (a : ℕ) (list : List ℕ) (i : ℕ) → get_or (words_from a list) i 0 ≡ get_or list (a + i) 0

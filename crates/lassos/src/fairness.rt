@@ -19,12 +19,7 @@ fn meets<M: Model>(model: &M, j: u32, words: &[u32]) -> bool
 fn is_fair<M: Model>(model: &M, words: &[u32]) -> bool
     ensures { Decides result (AllMeet (M.Model.marking model.now).sets (M.Model.marking model.now).fair words.now) }
 {
-    for j in 0..model.fair_sets() {
-        if !meets(model, j, words) {
-            return false;
-        }
-    }
-    true
+    (0..model.fair_sets()).all(|j| meets(model, j, words))
 }
 
 // Whether each fair set holds some word of the loop.

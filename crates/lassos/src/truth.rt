@@ -33,9 +33,9 @@ fn mark<M: Model>(model: &M, rounds: &Rounds, node: Node, bits: &[u32], sets: &m
     requires sets { length sets.old ≡ length rounds.now.list.now }
     ensures { Marked (M.Model.marking model.now).label rounds.now.list.now rounds.now.stem node bits.now sets.new (length rounds.now.list.now) }
 {
-    for i in 0..rounds.list.len() {
+    for (i, s) in rounds.list.iter().enumerate() {
         let there = bits[rounds.follower(i)];
-        let label = model.label(rounds.list[i]);
+        let label = model.label(*s);
         sets[i] = u32::from(says(node, label, bits[i], there));
     }
 }
@@ -47,8 +47,8 @@ fn copy(sets: &[u32], q: u8, k: u8, bits: &mut [u32])
     ensures kept { (i j : ℕ) → i < length sets.now → j < k → bit (slice_index bits.new i) j ≡ bit (slice_index bits.old i) j }
     ensures new { (i : ℕ) → i < length sets.now → bit (slice_index bits.new i) k ≡ bit (slice_index sets.now i) q }
 {
-    for i in 0..sets.len() {
-        bits[i] = put(bits[i], k as u32, has(sets[i], q as u32));
+    for (i, set) in sets.iter().enumerate() {
+        bits[i] = put(bits[i], k as u32, has(*set, q as u32));
     }
 }
 
@@ -74,7 +74,7 @@ fn tell<M: Model>(
             operands,
             ..
         } => {
-            let row = &property.rows.connectives[connective as usize];
+            let row = property.rows.connectives[connective as usize];
             let bits = Rounds {
                 list: bits,
                 stem: rounds.stem,

@@ -1,11 +1,9 @@
 -- What a line of a table says, found step by step.
-use Rattle.std.proofs.Common.{◌≡◌, ℕ, ◌+◌, ◌<◌, ◌≤◌, false, eqb, List, [], ◌∷◌, length, take, Ok, Err, Result, sym, refl, ap, ◌∙◌, arith}
-use Rattle.std.proofs.lemmas.Bool.{cond-false, cond-true, le-ltb, lt-ltb, ne_eqb}
+use Rattle.std.proofs.Common.{◌≡◌, ℕ, ◌+◌, false, eqb, List, [], ◌∷◌, length, take, Ok, Err, Result, sym, refl, ap, ◌∙◌, arith}
+use Rattle.std.proofs.lemmas.Bool.{ne_eqb}
 use Rattle.frames.specs.Lines.{first_line, spelt}
 use Rattle.frames.specs.declared.faults.FrameFault.{FrameFault}
-use Rattle.frames.specs.declared.faults.FrameFault.TheVariants.{Kind}
-use Rattle.frames.specs.declared.faults.Refusal.TheVariants.{Order}
-use Rattle.models.specs.Entries.{alone, entry, framed, line_says, opening, sized}
+use Rattle.models.specs.Entries.{entry, framed, opening, sized}
 
 -- seven bytes are enough to tell a line
 pub opening_head : (xs : List ℕ) → opening (take 7 xs) ≡ opening xs
@@ -44,11 +42,3 @@ module _ {F : Type 0} (frame : List ℕ → Result F FrameFault) (enough : (xs :
   -- the line says something
   pub said_told : (f : F) → Ok f ≡ frame bytes → Ok (f, length digits + 1) ≡ framed frame (first_line 1 text)
   said_told f e = sym (ap (framed frame) (sym line) ∙ ap (sized (length digits + 1)) (sym (e ∙ whole)))
-
--- bytes stand after the line, or none do
-module _ {F : Type 0} (frame : List ℕ → Result F FrameFault) (text : List ℕ) (f : F) (size : ℕ) (said : Ok (f, size) ≡ framed frame (first_line 1 text)) where
-  pub more_told : size < length text → Err (Order 1) ≡ line_says frame text
-  more_told h = sym (ap (alone text) (sym said) ∙ cond-true _ _ _ (lt-ltb size (length text) h))
-
-  pub alone_told : length text ≤ size → Ok f ≡ line_says frame text
-  alone_told h = sym (ap (alone text) (sym said) ∙ cond-false _ _ _ (le-ltb size (length text) h))

@@ -12,7 +12,7 @@ use frames::Refusal;
 fn in_range(states: u16, sets: u8) -> bool
     ensures { result ≡ in_range states sets }
 {
-    1 <= states && states <= 4096 && sets <= 4
+    (1..=4096).contains(&states) && sets <= 4
 }
 
 // Whether only the flags of start and of the fair sets are set.

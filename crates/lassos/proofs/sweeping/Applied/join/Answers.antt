@@ -9,8 +9,8 @@ pub loop-q-preserved : goal.loop-q-preserved
 loop-q-preserved c = elim c.if-leads_on.branch [
   | then-leads_on w ↦
       w.states-is ∙ ap₂ bit_or c.loop-q.invariant (one_shl c.loop-q.q 32 (omega arith))
-      ∙ join_takes c.args.self.now.row.now c.args.self.now.operands c.args.here c.args.there c.args.was c.loop-q.q (sym c.leads_on.ensures ∙ w.if-leads_on.true)
+      ∙ join_takes c.args.self.now.row c.args.self.now.operands c.args.here c.args.there c.args.was c.loop-q.q (sym c.leads_on.ensures ∙ w.if-leads_on.true)
   | else-leads_on w ↦
       w.states-is ∙ c.loop-q.invariant
-      ∙ join_skips c.args.self.now.row.now c.args.self.now.operands c.args.here c.args.there c.args.was c.loop-q.q (sym c.leads_on.ensures ∙ w.if-leads_on.false)
+      ∙ join_skips c.args.self.now.row c.args.self.now.operands c.args.here c.args.there c.args.was c.loop-q.q (sym c.leads_on.ensures ∙ w.if-leads_on.false)
 ]

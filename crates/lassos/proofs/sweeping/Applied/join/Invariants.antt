@@ -3,4 +3,4 @@ use Rattle.lassos.specs.Sweeps.{joined}
 use Rattle.lassos.proofs.sweeping.Applied.join.Given as goal
 
 abbrev pub invariant-loop-q : goal.invariant-loop-q
-invariant-loop-q l = l.states ≡ joined l.self.row.now l.self.operands l.here l.there l.was l.q
+invariant-loop-q l = l.states ≡ joined l.self.row l.self.operands l.here l.there l.was l.q
