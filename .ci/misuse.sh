@@ -7,13 +7,13 @@ cd "$(dirname "$0")/.."
 copy=$(mktemp -d)
 trap 'rm -rf "$copy"' EXIT
 mkdir "$copy/crates"
-for crate in frames graphs kripke models; do
+for crate in frames masks graphs kripke models; do
     mkdir "$copy/crates/$crate"
     for part in src specs proofs; do
         if [ -d "crates/$crate/$part" ]; then cp -r "crates/$crate/$part" "$copy/crates/$crate/"; fi
     done
 done
-printf 'frames:\ngraphs: frames\nkripke:\nmodels: frames graphs kripke\n' > "$copy/crates.txt"
+printf 'frames:\nmasks:\ngraphs: frames\nkripke:\nmodels: frames masks graphs kripke\n' > "$copy/crates.txt"
 cp crates/models/src/lib.rt "$copy/lib.rt"
 for text in .ci/misuse/*.txt; do
     name=$(basename "$text" .txt)

@@ -61,10 +61,7 @@ fn judged(rt: &HostRuntime, n: u32) -> anyhow::Result<()> {
         return Err(anyhow!("no property"));
     };
     let ring = Ring::new(64);
-    let mut list = Vec::new(heap);
-    for i in 0..n {
-        list.push(i % 64)?;
-    }
+    let list: Vec<u32> = (0..n).map(|i| i % 64).collect(heap)?;
     let mut scratch = vec![in heap; 0; 3 * n as usize]?;
     match judge(
         &property,
@@ -83,10 +80,7 @@ fn judged(rt: &HostRuntime, n: u32) -> anyhow::Result<()> {
 fn run(rt: &HostRuntime) -> anyhow::Result<()> {
     let mut args = env::args(rt)?;
     let _ = args.next();
-    let Some(kind) = args.next() else {
-        return Err(anyhow!("path, table or judge, and a size"));
-    };
-    let Some(size) = args.next() else {
+    let (Some(kind), Some(size)) = (args.next(), args.next()) else {
         return Err(anyhow!("path, table or judge, and a size"));
     };
     let n = size.as_str().parse::<u32>()?;

@@ -2,7 +2,7 @@
 use Rattle.std.proofs.Common.{◌≡◌, ℕ, ◌+◌, ◌<◌, ◌&&◌, T, ltb, ◌⊎◌, [], ◌∷◌, get_or, sym, refl, ◌∙◌, subst, inl, inr, arith, lit<}
 use Rattle.kripke.specs.Models.{Kripke}
 use Rattle.kripke.specs.Lassos.{Lasso, LassoOf, at, follower}
-use Rattle.language.specs.Masks.{bit}
+use Rattle.masks.specs.Masks.{bit}
 use Rattle.language.specs.Properties.{idle}
 use Rattle.language.specs.Reading.{moving}
 use Rattle.models.specs.Tables.{among, pair_word}

@@ -1,7 +1,7 @@
 -- A model that may stay or go, with and without a fair set, and one that goes nowhere.
 use Rattle.std.proofs.Common.{◌≡◌, ℕ, zero, suc, ◌+◌, ◌<◌, false, ◌&&◌, T, ltb, ◌⊎◌, [], ◌∷◌, get_or, sym, refl, subst, inl, inr, arith, lit<}
 use Rattle.kripke.specs.Lassos.{Lasso, LassoOf, at, follower}
-use Rattle.language.specs.Masks.{bit}
+use Rattle.masks.specs.Masks.{bit}
 use Rattle.language.specs.Properties.{Property, idle}
 use Rattle.language.specs.Reading.{moving}
 use Rattle.logic.specs.Truth.{Fulfilled, HoldsBelow, Line}

@@ -1,6 +1,6 @@
 -- How a connective is fulfilled letter by letter, and what keeps it from being fulfilled.
 use Rattle.std.proofs.Common.{ℕ, suc, ◌<◌, T, List, [], ◌∷◌, length, get_or, subst, suc-le-suc, zero-le}
-use Rattle.language.specs.Masks.{bit}
+use Rattle.masks.specs.Masks.{bit}
 use Rattle.language.specs.Properties.{Connective}
 use Rattle.logic.specs.Truth.{Line, Accepts, Fulfilled, later}
 use Rattle.logic.proofs.Unfold.{fold_step, rest_accepts}

@@ -1,4 +1,3 @@
-pub mod Masks
 pub mod Properties
 pub mod Reading
 pub mod Canonical

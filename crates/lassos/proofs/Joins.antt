@@ -3,11 +3,12 @@ use Rattle.std.proofs.Common.{◌≡◌, ℕ, zero, suc, ◌+◌, ◌^◌, ◌<�
 use lib.Bits.{bit_or, or_add_and, and_le_r, or_lt}
 use lib.Pow.{pow-lt}
 use Rattle.std.proofs.lemmas.Bool.{cases_eq, cond-false, cond-true, eq-eqb}
-use Rattle.language.specs.Masks.{bit}
+use Rattle.masks.specs.Masks.{bit}
 use Rattle.logic.proofs.Bools.{T_or_left, T_or_right, or_T}
 use Rattle.properties.specs.declared.rows.Connective.{Connective as ConnectiveRow}
 use Rattle.lassos.specs.Sweeps.{joined, leads, room}
-use Rattle.lassos.proofs.Words.{bit-bit_or, true_T}
+use Rattle.masks.proofs.Bits.{bit-bit_or}
+use Rattle.lassos.proofs.Words.{true_T}
 
 module _ (row : ConnectiveRow) (operands : List ℕ) (here there was : ℕ) where
   -- what was there stays

@@ -5,7 +5,7 @@ use Rattle.std.proofs.lemmas.List.{get_or-take, length-take, get_or-map}
 use Rattle.std.proofs.lemmas.Bool.{and_parts, cases_eq, ltb-true}
 use Rattle.frames.specs.Frames.{Node}
 use Rattle.frames.specs.Frames.Node.{apply, truth}
-use Rattle.language.specs.Masks.{bit}
+use Rattle.masks.specs.Masks.{bit}
 use Rattle.language.specs.Properties.{Connective, Property, all_fit, connective_at, connective_fits}
 use Rattle.logic.specs.Truth.{Fulfilled, Holds, Line, Says, later, node_at, root}
 use Rattle.logic.proofs.Bools.{along_T, iff_and, iff_not, iff_or}

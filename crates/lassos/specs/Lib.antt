@@ -2,3 +2,4 @@ pub mod Rounds
 pub mod Truths
 pub mod Sweeps
 pub mod Judging
+pub mod Lists

@@ -1,6 +1,6 @@
 -- The states of a connective from which it is fulfilled at the positions of a lasso, as bits of a word for each position.
 use Rattle.std.specs.Prelude.{◌≡◌, ℕ, zero, suc, ◌+◌, ◌-◌, ◌*◌, ◌^◌, ◌<◌, ◌≤◌, Bool, true, false, cond, not, ◌&&◌, T, ◌↔◌, List, [], ◌∷◌, length, ◌==◌, bit_and, bit_or, slice_index}
-use Rattle.language.specs.Masks.{bit}
+use Rattle.masks.specs.Masks.{bit}
 use Rattle.logic.specs.Product.{some_below}
 use Rattle.logic.specs.Truth.{Fulfilled}
 use Rattle.properties.specs.Views.{connective_of}

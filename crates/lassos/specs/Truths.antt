@@ -1,6 +1,6 @@
 -- Which nodes are true at the positions of a lasso, as bits of a word for each position.
 use Rattle.std.specs.Prelude.{◌≡◌, ℕ, ◌<◌, Bool, true, false, not, ◌&&◌, ◌||◌, T, ◌↔◌, List, length, slice_index}
-use Rattle.language.specs.Masks.{bit}
+use Rattle.masks.specs.Masks.{bit}
 use Rattle.language.specs.Properties.{Property}
 use Rattle.logic.specs.Truth.{Line, Holds}
 use Rattle.properties.specs.declared.rows.Node.{Node as NodeRow}

@@ -1,19 +1,18 @@
 //! Whether the words of a loop are fair.
-ghost use Rattle.std.specs.Prelude.{◌≤◌, length, Decides};
-ghost use Rattle.lassos.specs.Rounds.{AllMeet, Meets, words_from};
+ghost use Rattle.std.specs.Prelude.{Decides};
+ghost use Rattle.kripke.specs.Lassos.{Fair};
+ghost use Rattle.models.specs.Markings.{structure_of};
+ghost use Rattle.lassos.specs.Lists.{lasso_of};
+ghost use Rattle.lassos.specs.Rounds.{AllMeet, Meets};
 
+use crate::shape::Rounds;
 use models::Model;
 
 // Whether the fair set `j` holds some of the words.
 fn meets<M: Model>(model: &M, j: u32, words: &[u32]) -> bool
     ensures { Decides result (Meets ((M.Model.marking model.now).fair j) words.now) }
 {
-    for i in 0..words.len() {
-        if model.fair(j, words[i]) {
-            return true;
-        }
-    }
-    false
+    words.iter().any(|s| model.fair(j, *s))
 }
 
 // Whether each fair set holds some of the words.
@@ -28,10 +27,9 @@ fn is_fair<M: Model>(model: &M, words: &[u32]) -> bool
     true
 }
 
-// Whether each fair set holds some word from position `a` on.
-pub(crate) fn is_fair_from<M: Model>(model: &M, list: &[u32], a: usize) -> bool
-    requires { a ≤ length list.now }
-    ensures { Decides result (AllMeet (M.Model.marking model.now).sets (M.Model.marking model.now).fair (words_from a list.now)) }
+// Whether each fair set holds some word of the loop.
+pub(crate) fn is_fair_round<M: Model>(model: &M, rounds: &Rounds) -> bool
+    ensures { Decides result (Fair (structure_of M.Model model.now) (lasso_of rounds.now)) }
 {
-    is_fair(model, &list[a..])
+    is_fair(model, &rounds.list[rounds.stem..])
 }

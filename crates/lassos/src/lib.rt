@@ -1,7 +1,6 @@
 //! The judge's core: whether a list of words is a counterexample of a model to a property.
 #![tactic(auto)]
 
-mod bits;
 mod fairness;
 pub mod judging;
 mod shape;

@@ -1,35 +1,18 @@
 //! Whether a list of words is a lasso of a model.
-ghost use Rattle.std.specs.Prelude.{◌≡◌, ◌+◌, ◌<◌, ◌≤◌, length, Decides};
+ghost use Rattle.std.specs.Prelude.{◌≡◌, ◌+◌, ◌<◌, ◌≤◌, length, Decides, MatchOption};
 ghost use Rattle.kripke.specs.Lassos.{LassoOf};
-ghost use Rattle.models.specs.Markings.{structure};
+ghost use Rattle.models.specs.Markings.{structure_of};
 ghost use Rattle.lassos.specs.Rounds.{AllStates, GoesRound, after};
 
 use graphs::Graph;
 use models::Model;
 
-// Whether a stem of `a` words and a loop of `b` words, at least one, are as many as there are words.
-fn adds_up(words: usize, a: u32, b: u32) -> bool
-    ensures { Decides result ((1 ≤ b) × (words ≡ a + b)) }
-{
-    b > 0 && a as u64 + b as u64 == words as u64
-}
-
-// The position that comes after position `i` of `n`: after the last one comes position `a`.
-pub(crate) fn follower(i: usize, a: usize, n: usize) -> usize
-    requires { i < n }
-    ensures { result ≡ after n a i }
-{
-    if i + 1 == n { a } else { i + 1 }
-}
-
-// Whether a graph steps from `s` to `t`.
-fn steps<G: Graph>(graph: &G, s: u32, t: u32) -> bool
-    ensures { result ≡ G.Graph.edge graph.now s t }
-{
-    match graph.next(s, t) {
-        Some(u) => u == t,
-        None => false,
-    }
+// Words that go round: after the last one comes the word at `stem`.
+#[derive(Clone, Copy)]
+pub(crate) struct Rounds<'a> {
+    pub(crate) list: &'a [u32],
+    pub(crate) stem: usize,
+    ghost inside: { stem < length list.now },
 }
 
 // Whether every word is a state.
@@ -37,33 +20,47 @@ fn are_states<G: Graph>(graph: &G, list: &[u32]) -> bool
     ensures { Decides result (AllStates (G.Graph.states graph.now) list.now) }
 {
     let states = graph.states();
-    for i in 0..list.len() {
-        if list[i] >= states {
-            return false;
-        }
-    }
-    true
+    list.iter().all(|s| *s < states)
 }
 
-// Whether each word steps to that of its follower, where word `a` follows the last one.
-fn goes_round<G: Graph>(graph: &G, list: &[u32], a: usize) -> bool
-    requires { a < length list.now }
-    ensures { Decides result (GoesRound (G.Graph.edge graph.now) list.now a) }
-{
-    for i in 0..list.len() {
-        if !steps(graph, list[i], list[follower(i, a, list.len())]) {
-            return false;
+impl<'a> Rounds<'a> {
+    ghost use Rattle.lassos.specs.Lists.{lasso_of};
+
+    // A stem of `a` words and a loop of `b` words, at least one, if that is as many as there are words.
+    pub(crate) fn new(list: &'a [u32], a: u32, b: u32) -> Option<Rounds<'a>>
+        ensures { MatchOption result (¬ ((1 ≤ b) × (length list.now ≡ a + b))) (λ rounds. lasso_of rounds ≡ record { list = list.entry.now; stem = a; loop = b }) }
+    {
+        let stem = a as usize;
+        if b > 0 && stem + b as usize == list.len() {
+            Some(Rounds { list, stem })
+        } else {
+            None
         }
     }
-    true
-}
 
-// Whether the list is a lasso of the model from a start state.
-pub(crate) fn is_lasso<M: Model>(model: &M, list: &[u32], a: u32, b: u32) -> bool
-    ensures { Decides result (LassoOf (structure (M.Graph.states model.now) (M.Graph.edge model.now) (M.Model.marking model.now)) (record { list = list.entry.now; stem = a; loop = b })) }
-{
-    if !adds_up(list.len(), a, b) {
-        return false;
+    // The position that comes after position `i`.
+    pub(crate) fn follower(&self, i: usize) -> usize
+        requires { i < length self.now.list.now }
+        ensures { result ≡ after (length self.now.list.now) self.now.stem i }
+    {
+        if i + 1 == self.list.len() {
+            self.stem
+        } else {
+            i + 1
+        }
     }
-    are_states(model, list) && model.start(list[0]) && goes_round(model, list, a as usize)
+
+    // Whether each word steps to that of its follower.
+    fn goes_round<G: Graph>(&self, graph: &G) -> bool
+        ensures { Decides result (GoesRound (G.Graph.edge graph.now) self.now.list.now self.now.stem) }
+    {
+        (0..self.list.len()).all(|i| graph.has_edge(self.list[i], self.list[self.follower(i)]))
+    }
+
+    // Whether the words are a lasso of the model from a start state.
+    pub(crate) fn is_lasso<M: Model>(&self, model: &M) -> bool
+        ensures { Decides result (LassoOf (structure_of M.Model model.now) (lasso_of self.now)) }
+    {
+        are_states(model, self.list) && model.start(self.list[0]) && self.goes_round(model)
+    }
 }

@@ -1,6 +1,6 @@
 -- A path of masks of `mask_width` bits is one where each mask is the back mask of the vertex after it.
 use Rattle.std.proofs.Common.{◌≡◌, ℕ, ◌^◌, ◌<◌, Bool, T, ◌↔◌, sym, ap, ◌∙◌}
-use Rattle.language.specs.Masks.{bit}
+use Rattle.masks.specs.Masks.{bit}
 use Rattle.language.specs.Properties.{Property}
 use Rattle.logic.specs.Truth.{Line}
 use Rattle.logic.specs.Product.{back, back_mask, mask_width}

@@ -1,7 +1,7 @@
 -- A claim is carried along a path until it is fulfilled.
 use Rattle.std.proofs.Common.{◌≡◌, ℕ, zero, suc, ◌<◌, Bool, T, ◌⊎◌, List, length, get_or, sym, subst, inl, inr, suc-le-suc, zero-le}
 use Rattle.frames.specs.Frames.Node.{apply}
-use Rattle.language.specs.Masks.{bit}
+use Rattle.masks.specs.Masks.{bit}
 use Rattle.language.specs.Properties.{Connective, Property, connective_at}
 use Rattle.logic.specs.Truth.{Fulfilled, Line, later, node_at}
 use Rattle.logic.specs.Paths.{Carried, Closed, Fulfils, FulfilsAt, Goes_on, ProductPath, claim_at, sat_at}

@@ -1,7 +1,7 @@
 -- What a claim is, and how it goes on along a path of the product.
 use Rattle.std.proofs.Common.{◌≡◌, ℕ, suc, ◌+◌, ◌<◌, ◌≤◌, Bool, ◌&&◌, T, ◌⊎◌, List, [], ◌∷◌, length, get_or, sym, ap, ◌∙◌, subst, inl, inr, suc-le-suc, zero-le, arith}
 use Rattle.frames.specs.Frames.Node.{apply}
-use Rattle.language.specs.Masks.{bit}
+use Rattle.masks.specs.Masks.{bit}
 use Rattle.language.specs.Properties.{Connective, Property, connective_at, node_width}
 use Rattle.logic.specs.Truth.{Accepts, Line, later, node_at}
 use Rattle.logic.specs.Product.{claim, claim_node, claim_of, sat, some_below, start_of}

@@ -3,7 +3,7 @@ use Rattle.std.proofs.Common.{◌≡◌, ℕ, zero, suc, ◌+◌, ◌-◌, ◌*�
 use native.Mathlib.Nat.{add-mul-div_right, add-mul-mod_self_right}
 use lib.Pow.{high, mod-pow-add}
 use Rattle.std.proofs.lemmas.Bool.{eqb-false, eqb-true}
-use Rattle.language.specs.Masks.{bit}
+use Rattle.masks.specs.Masks.{bit}
 use Rattle.logic.specs.Product.{mask_of}
 
 -- a mask of n bits is below 2 ^ n
@@ -16,7 +16,7 @@ mask_fits (suc n) g = go (g n) (mask_fits n g)
     go false h = let e : 2 ^ suc n ≡ 2 ^ n * 2 = pow-suc 2 n in omega arith
 
 -- a digit at n or above leaves the bits below n
-high_digit : (d n i lo : ℕ) → i < n → (d * 2 ^ n + lo) / 2 ^ i % 2 ≡ lo / 2 ^ i % 2
+pub high_digit : (d n i lo : ℕ) → i < n → (d * 2 ^ n + lo) / 2 ^ i % 2 ≡ lo / 2 ^ i % 2
 high_digit d n i lo h =
     let e : ℕ = n - suc i in
     let sum : n ≡ suc e + i = omega arith in

@@ -1,10 +1,11 @@
 -- A node's truth, at a vertex and on a line, from that of its operands.
-use Rattle.std.proofs.Common.{◌≡◌, ℕ, zero, suc, ◌+◌, ◌<◌, Bool, true, false, not, ◌&&◌, ◌||◌, eqb, ◌⊎◌, ◌↔◌, length, get_or, sym, refl, ap, ◌∙◌, subst, ap₂, inl, inr, not-suc-le-zero, arith}
+use Rattle.std.proofs.Common.{◌≡◌, ℕ, zero, suc, ◌+◌, ◌<◌, Bool, true, false, not, ◌&&◌, ◌||◌, eqb, ◌↔◌, length, get_or, sym, refl, ap, ◌∙◌, subst, ap₂, not-suc-le-zero, arith}
 use mathlib.Core.Logic.Iff
+use Rattle.std.proofs.Math.Logic.{⊎_map}
 use Rattle.std.proofs.lemmas.Bool.{eq-eqb, eqb-false, eqb-true}
 use Rattle.frames.specs.Frames.{Node}
 use Rattle.frames.specs.Frames.Node.{proposition, negation, next, both, either, apply, truth}
-use Rattle.language.specs.Masks.{bit}
+use Rattle.masks.specs.Masks.{bit}
 use Rattle.language.specs.Properties.{Connective, Property, WellFormed, connective_at}
 use Rattle.logic.specs.Truth.{Fulfilled, Holds, HoldsBelow, Line, Says, later, node_at}
 use Rattle.logic.specs.Product.{claim_of, sat, sat_below, sat_node, some_below, start_of}
@@ -68,15 +69,7 @@ module _ (f : Property) (l : Line) (k : ℕ) (P Q : ℕ → ℕ → Type 0) (sam
   says_same (negation j) fits i = Iff.not (same j i fits)
   says_same (next j) fits i = same j (l.after i) fits
   says_same (both j m) fits i = Iff.and (same j i fits.0) (same m i fits.1)
-  says_same (either j m) fits i = (forth, over)
-    where
-      forth : P j i ⊎ P m i → Q j i ⊎ Q m i
-      forth (inl a) = inl ((same j i fits.0).0 a)
-      forth (inr b) = inr ((same m i fits.1).0 b)
-
-      over : Q j i ⊎ Q m i → P j i ⊎ P m i
-      over (inl a) = inl ((same j i fits.0).1 a)
-      over (inr b) = inr ((same m i fits.1).1 b)
+  says_same (either j m) fits i = (⊎_map (same j i fits.0).0 (same m i fits.1).0, ⊎_map (same j i fits.0).1 (same m i fits.1).1)
   says_same (apply c is) fits i = (
     fulfil_map (connective_at f.connectives c) (λ a j. P (get_or is a 0) j) (λ a j. Q (get_or is a 0) j) l (λ _. Unit {0}) (λ _ _. tt)
         (λ a j lt _ p. (same (get_or is a 0) j (operand_below f k c is fits a lt)).0 p) (connective_at f.connectives c).start i tt,

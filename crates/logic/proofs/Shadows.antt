@@ -3,7 +3,7 @@ use Rattle.std.proofs.Common.{◌≡◌, ℕ, suc, ◌+◌, ◌<◌, ◌≤◌, 
 use mathlib.Core.Logic.Iff
 use Rattle.frames.specs.Frames.{Node}
 use Rattle.frames.specs.Frames.Node.{proposition, negation, next, both, either, apply, truth}
-use Rattle.language.specs.Masks.{bit}
+use Rattle.masks.specs.Masks.{bit}
 use Rattle.language.specs.Properties.{Connective, Property, WellFormed, connective_at, node_width}
 use Rattle.logic.specs.Truth.{Fulfilled, Holds, Line, node_at}
 use Rattle.logic.specs.Product.{claim_node, claim_of, mask_of, mask_width, spread, start_of}

@@ -3,7 +3,7 @@ use Rattle.std.specs.Prelude.{◌≡◌, ℕ, ◌+◌, ◌^◌, ◌<◌, ◌≤�
 use Rattle.frames.specs.Frames.Node.{apply}
 use Rattle.kripke.specs.Models.{Kripke, OneMeaning}
 use Rattle.kripke.specs.Lassos.{Lasso, position}
-use Rattle.language.specs.Masks.{bit}
+use Rattle.masks.specs.Masks.{bit}
 use Rattle.language.specs.Properties.{Connective, Property, WellFormed, connective_at, width}
 use Rattle.logic.specs.Truth.{Line, Fulfilled, Holds, TrueOf, later, node_at, root, word_line}
 use Rattle.logic.specs.OnLassos.{Counterexample, Falsifies, lasso_line, unrolled}

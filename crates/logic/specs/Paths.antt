@@ -5,7 +5,7 @@ use Rattle.frames.specs.Frames.{Node}
 use Rattle.frames.specs.Frames.Node.{proposition, negation, next, both, either, apply, truth}
 use Rattle.kripke.specs.Models.{Kripke}
 use Rattle.kripke.specs.Lassos.{Lasso}
-use Rattle.language.specs.Masks.{bit}
+use Rattle.masks.specs.Masks.{bit}
 use Rattle.language.specs.Properties.{Property, connective_at, node_width}
 use Rattle.logic.specs.Truth.{Line, Fulfilled, Holds, later, node_at}
 use Rattle.logic.specs.OnLassos.{lasso_line}

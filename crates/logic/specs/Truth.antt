@@ -2,7 +2,7 @@
 use Rattle.std.specs.Prelude.{◌≡◌, ℕ, zero, suc, ◌-◌, ◌<◌, ◌≤◌, true, false, T, ◌⊎◌, List, length, ◌==◌, slice_index, slice_index_or}
 use Rattle.frames.specs.Frames.{Node}
 use Rattle.frames.specs.Frames.Node.{proposition, negation, next, both, either, apply, truth}
-use Rattle.language.specs.Masks.{bit}
+use Rattle.masks.specs.Masks.{bit}
 use Rattle.language.specs.Properties.{Connective, Property, connective_at}
 
 -- node number k; one that does not exist is the truth

@@ -1,7 +1,7 @@
 -- The lowest bit of a mask that is not 0, and the mask without it.
 use Rattle.std.proofs.Common.{◌≡◌, ℕ, zero, suc, ◌*◌, ◌%◌, ◌^◌, ◌<◌, ◌≤◌, Bool, true, false, T, refl, ap, ◌∙◌, ⊎_elim, mod-eq_of_lt, one-mul, zero-mul, arith, pow_mono}
 use Rattle.std.proofs.lemmas.Bool.{cases_lt}
-use Rattle.language.specs.Masks.{bit}
+use Rattle.masks.specs.Masks.{bit}
 use Rattle.logic.specs.Product.{mask_of, some_below}
 use Rattle.logic.proofs.Bools.{some_in}
 use Rattle.logic.proofs.Masks.{mask_same, mask_whole}

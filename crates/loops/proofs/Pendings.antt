@@ -1,7 +1,7 @@
 -- The obligations of a node at a vertex, as a loop puts one bit after the other.
 use Rattle.std.proofs.Common.{◌≡◌, ℕ, ◌+◌, ◌*◌, ◌^◌, ◌<◌, Bool, true, false, cond, sym, refl, ap, ◌∙◌, subst, le_refl, pow-suc, add-one, arith}
 use Rattle.kripke.specs.Models.{Kripke}
-use Rattle.language.specs.Masks.{bit}
+use Rattle.masks.specs.Masks.{bit}
 use Rattle.language.specs.Properties.{Property, node_width}
 use Rattle.logic.specs.Product.{mask_of}
 use Rattle.logic.specs.Truth.{node_at}

@@ -6,7 +6,7 @@ use Rattle.std.proofs.lemmas.Slice.{drop-append-drop}
 use Rattle.frames.specs.Frames.Node.{apply}
 use Rattle.graphs.specs.Walks.{Reaches, Walk}
 use Rattle.kripke.specs.Models.{Kripke}
-use Rattle.language.specs.Masks.{bit}
+use Rattle.masks.specs.Masks.{bit}
 use Rattle.language.specs.Properties.{Property, connective_at, node_width, width}
 use Rattle.logic.specs.Product.{mask_width, start_of}
 use Rattle.logic.specs.Truth.{node_at}

@@ -2,7 +2,7 @@
 use Rattle.std.specs.Prelude.{◌≡◌, ℕ, ◌+◌, ◌-◌, ◌*◌, ◌^◌, ◌<◌, ◌≤◌, Bool, List, length, take, drop}
 use Rattle.frames.specs.Frames.Node.{apply}
 use Rattle.kripke.specs.Models.{Kripke}
-use Rattle.language.specs.Masks.{bit}
+use Rattle.masks.specs.Masks.{bit}
 use Rattle.language.specs.Properties.{Property, node_width}
 use Rattle.logic.specs.Product.{mask_width, start_of}
 use Rattle.logic.specs.Truth.{node_at}

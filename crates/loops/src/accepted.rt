@@ -10,9 +10,9 @@ use obligations::Obligations;
 // That it did is asked of each question: a walk that shows it is no fact that a type can carry.
 #[derive(Drop)]
 pub struct Accepted<'a, M: Model> {
-    pub obligations: &'a Obligations<'a, M>,
+    pub obligations: Obligations<'a, M>,
     pub stack: &'a [u32],
     pub x: u32,
-    ghost long: { obligations.now.inside.segment.top ≤ length stack.now },
-    ghost stacked: { Stacked (word stack.now) (word obligations.now.inside.segment.place.now) obligations.now.inside.segment.top },
+    ghost long: { obligations.inside.segment.top ≤ length stack.now },
+    ghost stacked: { Stacked (word stack.now) (word obligations.inside.segment.place.now) obligations.inside.segment.top },
 }

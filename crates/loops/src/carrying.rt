@@ -1,7 +1,7 @@
 //! Obligations of a node at a vertex, and where they are carried on leaving it.
 ghost use Rattle.std.specs.Prelude.{◌≡◌, ℕ, ◌<◌, ◌≤◌, List};
 ghost use Rattle.frames.specs.Frames.Node.{apply};
-ghost use Rattle.language.specs.Masks.{bit};
+ghost use Rattle.masks.specs.Masks.{bit};
 ghost use Rattle.language.specs.Properties.{node_width};
 ghost use Rattle.logic.specs.Truth.{node_at};
 ghost use Rattle.models.specs.Markings.{structure_of};

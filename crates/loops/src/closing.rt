@@ -30,7 +30,7 @@ impl<'a, M: Model> Accepted<'a, M> {
         ensures closed { Closed (model_at M.Model self.now) (property_at self.now) (set_at self.now) self.now.x stands words.old words.new result }
         ensures finder { finder.new ≡ finder.old }
     {
-        let o = self.obligations;
+        let o = &self.obligations;
         let inside = &o.inside;
         let size = inside.states();
         let masks = inside.product.plan.size();

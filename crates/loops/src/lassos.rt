@@ -31,7 +31,7 @@ impl<'a, M: Model> Accepted<'a, M> {
         ensures stem { StemWritten (model_at M.Model self.now) (property_at self.now) u self.now.x trace.old trace.new result }
         ensures finder { finder.new ≡ finder.old }
     {
-        let o = self.obligations;
+        let o = &self.obligations;
         let product = o.inside.product;
         let size = product.states();
         let count = route(product, u, self.x, finder, list, 0, size as usize);

@@ -32,7 +32,7 @@ impl<'a, M: Model> Accepted<'a, M> {
         ensures made { RoundMade (model_at M.Model self.now) (property_at self.now) (set_at self.now) self.now.x k done words.old words.new result }
         ensures finder { finder.new ≡ finder.old }
     {
-        let o = self.obligations;
+        let o = &self.obligations;
         let plan = o.inside.product.plan;
         let size = o.inside.states();
         let q = lowest(done.due, node_width(&plan.property, k) as u32);
@@ -59,7 +59,7 @@ impl<'a, M: Model> Accepted<'a, M> {
         ensures rest { drop (result + 1) words.new ≡ drop (result + 1) words.old }
         ensures finder { finder.new ≡ finder.old }
     {
-        let o = self.obligations;
+        let o = &self.obligations;
         let product = o.inside.product;
         let plan = product.plan;
         let masks = plan.size();
@@ -84,7 +84,7 @@ impl<'a, M: Model> Accepted<'a, M> {
         ensures rest { drop (result + 1) words.new ≡ drop (result + 1) words.old }
         ensures finder { finder.new ≡ finder.old }
     {
-        let o = self.obligations;
+        let o = &self.obligations;
         let plan = o.inside.product.plan;
         let mut at = 0;
         for k in 0..plan.property.rows.count as usize {

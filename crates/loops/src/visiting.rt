@@ -36,7 +36,7 @@ impl<'a, M: Model> Accepted<'a, M> {
         ensures rest { drop result.at words.new ≡ drop result.at words.old }
         ensures finder { finder.new ≡ finder.old }
     {
-        let o = self.obligations;
+        let o = &self.obligations;
         let inside = &o.inside;
         let product = inside.product;
         let component = Component {
@@ -81,7 +81,7 @@ impl<'a, M: Model> Accepted<'a, M> {
         ensures rest { drop result.at words.new ≡ drop result.at words.old }
         ensures finder { finder.new ≡ finder.old }
     {
-        let o = self.obligations;
+        let o = &self.obligations;
         let product = o.inside.product;
         let mut stands = Standing { at, vertex: self.x };
         for j in 0..product.model.fair_sets() {

@@ -3,6 +3,6 @@ pub mod Rows
 pub mod Stepping
 pub mod Lines
 pub mod Marks
-pub mod Nearest
+pub mod Lowest
 pub mod Clamped
 pub mod Paired

@@ -7,15 +7,6 @@ use Rattle.frames.specs.declared.faults.FrameFault.TheVariants.{Kind}
 use Rattle.frames.specs.declared.faults.Refusal.TheVariants.{Order}
 use Rattle.models.specs.Entries.{alone, entry, framed, line_says, opening, sized}
 
--- no bytes have no kind
-pub opening_none : (xs : List ℕ) → length xs < 1 → Err (Kind 1) ≡ opening xs
-opening_none [] h = refl
-opening_none (a ∷ xs) h = absurd (omega arith)
-
-pub entry_none : (xs : List ℕ) → length xs < 1 → Err (Kind 1) ≡ entry xs
-entry_none [] h = refl
-entry_none (a ∷ xs) h = absurd (omega arith)
-
 -- seven bytes are enough to tell a line
 pub opening_head : (xs : List ℕ) → opening (take 7 xs) ≡ opening xs
 opening_head [] = refl

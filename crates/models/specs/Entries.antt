@@ -1,5 +1,5 @@
 -- The lines of a table: the first byte that a line spells is its kind, the rest are its fields.
-use Rattle.std.specs.Prelude.{ℕ, ◌+◌, ◌*◌, cond, List, length, Ok, Err, Result, ◌==◌, nat_lt, slice_index}
+use Rattle.std.specs.Prelude.{◌≡◌, ℕ, take, ◌+◌, ◌*◌, cond, List, length, Ok, Err, Result, ◌==◌, nat_lt, slice_index}
 use Rattle.frames.specs.Lines.{first_line, spelt}
 use Rattle.frames.specs.declared.faults.LineFault.{LineFault}
 use Rattle.frames.specs.declared.faults.FrameFault.{FrameFault}
@@ -7,7 +7,6 @@ use Rattle.frames.specs.declared.faults.FrameFault.TheVariants.{Line, Kind, Coun
 use Rattle.frames.specs.declared.faults.Refusal.{Refusal}
 use Rattle.frames.specs.declared.faults.Refusal.TheVariants.{Frame, Order}
 use Rattle.models.specs.declared.entries.Opening.{Opening}
-use Rattle.models.specs.declared.entries.Opening.TheVariants.{Sizes}
 use Rattle.models.specs.declared.entries.Entry.{Entry}
 use Rattle.models.specs.declared.entries.Entry.TheVariants.{State, Edge}
 
@@ -26,7 +25,7 @@ of_length n bytes f = cond (length bytes == n) (Ok f) (Err (Count 1))
 -- what the bytes of a table's first line say: kind 01, the number of states in two bytes, the number of fair sets in one
 abbrev pub opening : List ℕ → Result Opening FrameFault
 opening bytes =
-    cond (slice_index bytes 0 == 0x01) (of_length 4 bytes (Sizes (number_at bytes 1) (slice_index bytes 3)))
+    cond (slice_index bytes 0 == 0x01) (of_length 4 bytes (record { states = number_at bytes 1; sets = slice_index bytes 3 }))
     (Err (Kind 1))
 
 -- what the bytes of a later line say: kind 02, a state, its label, its flags; or kind 03, a pair of states
@@ -54,3 +53,8 @@ alone text (Err fault) = Err (Frame fault)
 -- what one line says, told as line 1. Judged in this order: its form, its kind, the number of its fields, and that nothing stands after its 0A
 abbrev pub line_says : {F : Type 0} → (List ℕ → Result F FrameFault) → List ℕ → Result F Refusal
 line_says frame text = alone text (framed frame (first_line 1 text))
+
+-- a reading of at most seven bytes gives what the frame says of all of them
+pub record Reads {F : Type 0} (gives : List ℕ → Result F FrameFault → Type 0) (frame : List ℕ → Result F FrameFault) : Type 0 where
+  pub is : (bytes : List ℕ) (said : Result F FrameFault) → gives bytes said → said ≡ frame bytes
+  pub enough : (bytes : List ℕ) → frame (take 7 bytes) ≡ frame bytes

@@ -3,11 +3,11 @@ use Rattle.std.specs.Prelude.{ℕ, ◌+◌, ◌/◌, ◌^◌, Bool, cond, ◌&&�
 use Rattle.frames.specs.declared.faults.Refusal.{Refusal}
 use Rattle.frames.specs.declared.faults.Refusal.TheVariants.{Value, Store}
 use Rattle.models.specs.declared.entries.Opening.{Opening}
-use Rattle.models.specs.declared.entries.Opening.TheVariants.{Sizes}
 use Rattle.models.specs.declared.entries.Entry.{Entry}
 use Rattle.models.specs.declared.entries.Entry.TheVariants.{State, Edge}
 use Rattle.models.specs.declared.shapes.Filling.{Filling}
 use Rattle.models.specs.declared.shapes.Sealed.{Sealed}
+use Rattle.models.specs.declared.shapes.Sizes.{Sizes}
 use Rattle.models.specs.Entries.{entry, line_says, opening}
 use Rattle.models.specs.Tables.{Shape, pair_word, state_word, words_used}
 
@@ -48,7 +48,7 @@ linked f s t store =
 
 -- what a table's first line does, once it is told
 abbrev pub opened_by : List ℕ → Result Opening Refusal → Result Filled Refusal
-opened_by store (Ok (Sizes states sets)) = opened states sets store
+opened_by store (Ok said) = opened said.states said.sets store
 opened_by store (Err why) = Err why
 
 -- what a later line does, once it is told
@@ -85,13 +85,17 @@ abbrev pub words_after : List ℕ → Result Filled Refusal → List ℕ
 words_after store (Ok after) = after.words
 words_after store (Err why) = store
 
+-- the numbers of a table
+abbrev pub shape_in : Sizes → Shape
+shape_in f = record { states = f.states; sets = f.sets; pairs = f.pairs }
+
 -- the numbers of a table that is being filled
 abbrev pub shape_of : Filling → Shape
-shape_of f = record { states = f.states; sets = f.sets; pairs = f.pairs }
+shape_of f = shape_in f.sizes
 
 -- the numbers of a table that is sealed
 abbrev pub sealed_shape : Sealed → Shape
-sealed_shape f = record { states = f.states; sets = f.sets; pairs = f.pairs }
+sealed_shape f = shape_in f.sizes
 
 -- the numbers of the table that a call answers with, or why it is refused
 abbrev pub shape_told : Result Filling Refusal → Result Shape Refusal

@@ -22,5 +22,5 @@ abbrev pub marking_of : Kripke → Marking
 marking_of k = record { sets = k.sets; label = k.label; start = k.start; fair = k.fair }
 
 -- the Kripke structure that a value of a model type means, by what the type says of states, edges and marking
-abbrev pub structure_of : {M : Type 0} → record {states : M → ℕ; edge : M → ℕ → ℕ → Bool; marking : M → Marking} → M → Kripke
+abbrev pub structure_of : {M : Type 0} → record { states : M → ℕ; edge : M → ℕ → ℕ → Bool; marking : M → Marking } → M → Kripke
 structure_of type m = structure (type.states m) (type.edge m) (type.marking m)

@@ -1,6 +1,7 @@
 -- What a table means: its three numbers, read together with the words of a store.
-use Rattle.std.specs.Prelude.{ℕ, ◌+◌, ◌*◌, ◌/◌, ◌%◌, ◌^◌, Bool, false, cond, ◌&&◌, ◌||◌, List, [], ◌∷◌, take, drop, ◌==◌, nat_le, nat_lt, slice_index}
+use Rattle.std.specs.Prelude.{ℕ, ◌+◌, ◌*◌, ◌/◌, ◌%◌, Bool, false, cond, ◌&&◌, ◌||◌, List, [], ◌∷◌, take, drop, filter, map, ◌==◌, nat_lt, slice_index}
 use Rattle.kripke.specs.Models.{Kripke}
+use Rattle.masks.specs.Masks.{bit}
 
 -- How many states, fair sets and pairs a table has.
 pub record Shape : Type 0 where
@@ -28,10 +29,6 @@ word_of f store s = cond (nat_lt s f.states) (slice_index store s) 0
 abbrev pub pair_words : Shape → List ℕ → List ℕ
 pair_words f store = take f.pairs (drop f.states store)
 
--- bit k of a word is set
-abbrev pub bit : (k word : ℕ) → Bool
-bit k word = word / 2 ^ k % 2 == 1
-
 -- one of the words is w
 abbrev pub among : ℕ → List ℕ → Bool
 among w [] = false
@@ -44,10 +41,10 @@ table f store = record {
   sets = f.sets;
   edge = λ s t. nat_lt s f.states && (nat_lt t f.states && among (pair_word s t) (pair_words f store));
   label = λ s. word_of f store s % 65536;
-  start = λ s. bit 16 (word_of f store s);
-  fair = λ j s. nat_lt j f.sets && bit (17 + j) (word_of f store s);
+  start = λ s. bit (word_of f store s) 16;
+  fair = λ j s. nat_lt j f.sets && bit (word_of f store s) (17 + j);
 }
 
--- the second state of a pair's word where the first is s and the second lies from t to below `best`, and else `best`
-abbrev pub nearer : (s t word best : ℕ) → ℕ
-nearer s t word best = cond (word % 65536 == s && (nat_le t (word / 65536) && nat_lt (word / 65536) best)) (word / 65536) best
+-- the second states of the pairs' words whose first state is s
+abbrev pub seconds : (s : ℕ) → List ℕ → List ℕ
+seconds s words = map (λ word. word / 65536) (filter (λ word. word % 65536 == s) words)

@@ -4,8 +4,8 @@ ghost use Rattle.models.specs.Fillings.{allowed, answer, begun, fed, in_range, l
 ghost use Rattle.models.specs.Tables.{words_used};
 
 use crate::entries::{Entry, Opening, lone_entry, lone_opening};
-use crate::shapes::{Filling, Sealed};
-use crate::words::{pair_word, state_word, zero};
+use crate::shapes::{Filling, Sealed, Sizes};
+use crate::words::{pair_word, state_word};
 use frames::Refusal;
 
 // Whether a table may have so many states and fair sets.
@@ -28,18 +28,20 @@ pub fn begin(line: &[u8], store: &mut [u32]) -> Result<Filling, Refusal>
     ensures numbers { shape_told result ≡ numbers (begun line.now store.old) }
     ensures words { store.new ≡ words_after store.old (begun line.now store.old) }
 {
-    let Opening::Sizes { states, sets } = lone_opening(line)?;
+    let Opening { states, sets } = lone_opening(line)?;
     if !in_range(states, sets) {
         return Err(Refusal::Value { line: 1 });
     }
     if store.len() < states as usize {
         return Err(Refusal::Store { line: 1 });
     }
-    zero(store, states as usize);
+    store[..states as usize].fill(0);
     Ok(Filling {
-        states: states as u32,
-        sets: sets as u32,
-        pairs: 0,
+        sizes: Sizes {
+            states: states as u32,
+            sets: sets as u32,
+            pairs: 0,
+        },
     })
 }
 
@@ -48,7 +50,7 @@ impl Filling {
     fn used(&self) -> usize
         ensures { result ≡ words_used (shape_of self.now) }
     {
-        self.states as usize + self.pairs
+        self.sizes.states as usize + self.sizes.pairs
     }
 
     // Gives a state its label and its flags.
@@ -56,7 +58,7 @@ impl Filling {
         ensures answer { result ≡ answer (marked (shape_of self.now) s label flags store.old) }
         ensures words { store.new ≡ words_after store.old (marked (shape_of self.now) s label flags store.old) }
     {
-        if s as u32 >= self.states || !allowed(self.sets, flags) {
+        if s as u32 >= self.sizes.states || !allowed(self.sizes.sets, flags) {
             return Err(Refusal::Value { line: 1 });
         }
         if store.len() < self.used() {
@@ -72,7 +74,7 @@ impl Filling {
         ensures numbers { shape_of self.new ≡ shape_after (shape_of self.old) (linked (shape_of self.old) s t store.old) }
         ensures words { store.new ≡ words_after store.old (linked (shape_of self.old) s t store.old) }
     {
-        if s as u32 >= self.states || t as u32 >= self.states {
+        if s as u32 >= self.sizes.states || t as u32 >= self.sizes.states {
             return Err(Refusal::Value { line: 1 });
         }
         let at = self.used();
@@ -80,11 +82,7 @@ impl Filling {
             return Err(Refusal::Store { line: 1 });
         }
         store[at] = pair_word(s, t);
-        *self = Filling {
-            states: self.states,
-            sets: self.sets,
-            pairs: self.pairs + 1,
-        };
+        self.sizes.pairs += 1;
         Ok(())
     }
 
@@ -108,10 +106,6 @@ impl Filling {
     pub fn seal(self) -> Sealed
         ensures { sealed_shape result ≡ shape_of self }
     {
-        Sealed {
-            states: self.states,
-            sets: self.sets,
-            pairs: self.pairs,
-        }
+        Sealed { sizes: self.sizes }
     }
 }

@@ -6,8 +6,9 @@ ghost use Rattle.models.specs.Tables.{pair_words, table, word_of};
 
 use crate::model::{Model, Model as KripkeModel};
 use crate::shapes::Sealed;
-use crate::words::{bit, nearer, part, word_at};
+use crate::words::{lowest, part, word_at};
 use graphs::Graph;
+use masks::has;
 
 // A sealed table over the store that it is read from.
 #[derive(Clone, Copy)]
@@ -28,7 +29,7 @@ impl<'a> Table<'a> {
     fn word(&self, s: u32) -> u32
         ensures { result ≡ word_of (sealed_shape self.now.sealed.now) self.now.store.now s }
     {
-        if s < self.sealed.states {
+        if s < self.sealed.sizes.states {
             word_at(self.store, s)
         } else {
             0
@@ -39,7 +40,11 @@ impl<'a> Table<'a> {
     fn pairs(&self) -> &[u32]
         ensures { result.now ≡ pair_words (sealed_shape self.now.sealed.now) self.now.store.now }
     {
-        part(self.store, self.sealed.states as usize, self.sealed.pairs)
+        part(
+            self.store,
+            self.sealed.sizes.states as usize,
+            self.sealed.sizes.pairs,
+        )
     }
 }
 
@@ -49,20 +54,16 @@ impl<'a> Graph for Table<'a> {
     ghost edge = { λ t. (table (sealed_shape t.sealed.now) t.store.now).edge };
 
     fn states(&self) -> u32 {
-        self.sealed.states
+        self.sealed.sizes.states
     }
 
     fn next(&self, s: u32, t: u32) -> Option<u32> {
-        let n = self.sealed.states;
-        if s >= n {
-            return None;
+        let n = self.sealed.sizes.states;
+        if s < n {
+            lowest(self.pairs(), s, t, n)
+        } else {
+            None
         }
-        let mut best = n;
-        let words = self.pairs();
-        for word in words {
-            best = nearer(s, t, *word, best);
-        }
-        if best < n { Some(best) } else { None }
     }
 }
 
@@ -74,14 +75,14 @@ impl<'a> KripkeModel for Table<'a> {
     }
 
     fn start(&self, s: u32) -> bool {
-        bit(16, self.word(s))
+        has(self.word(s), 16)
     }
 
     fn fair_sets(&self) -> u32 {
-        self.sealed.sets
+        self.sealed.sizes.sets
     }
 
     fn fair(&self, j: u32, s: u32) -> bool {
-        j < self.sealed.sets && bit(17 + j, self.word(s))
+        j < self.sealed.sizes.sets && has(self.word(s), 17 + j)
     }
 }

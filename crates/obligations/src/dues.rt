@@ -1,6 +1,6 @@
 //! Which obligations stand at a vertex.
 ghost use Rattle.std.specs.Prelude.{◌≡◌, ◌<◌, not, ◌&&◌};
-ghost use Rattle.language.specs.Masks.{bit};
+ghost use Rattle.masks.specs.Masks.{bit};
 ghost use Rattle.language.specs.Properties.{node_width};
 ghost use Rattle.logic.specs.Truth.{node_at};
 ghost use Rattle.properties.specs.Meaning.{meaning};

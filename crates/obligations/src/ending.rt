@@ -1,6 +1,6 @@
 //! Whether a connective comes to a final state by one letter that is true.
 ghost use Rattle.std.specs.Prelude.{◌≡◌, ◌<◌, ◌≤◌, ◌&&◌, slice_index};
-ghost use Rattle.language.specs.Masks.{bit};
+ghost use Rattle.masks.specs.Masks.{bit};
 ghost use Rattle.language.specs.Properties.{node_width};
 ghost use Rattle.logic.specs.Truth.{node_at};
 ghost use Rattle.product.specs.Starts.{Below};

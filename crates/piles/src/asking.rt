@@ -10,13 +10,11 @@ use properties::Property;
 fn successors<M: Model>(rt: &HostRuntime, model: &M, s: u32) -> anyhow::Result<()> {
     let mut from = 0;
     for _ in 0..model.states() {
-        match model.next(s, from) {
-            Some(t) => {
-                print!(rt; " {t}")?;
-                from = t.saturating_add(1);
-            }
-            None => break,
-        }
+        let Some(t) = model.next(s, from) else {
+            break;
+        };
+        print!(rt; " {t}")?;
+        from = t.saturating_add(1);
     }
     Ok(println!(rt; "")?)
 }
@@ -27,12 +25,13 @@ fn describe<M: Model>(rt: &HostRuntime, model: &M) -> anyhow::Result<()> {
     let sets = model.fair_sets();
     println!(rt; "states {n} sets {sets}")?;
     for s in 0..n.min(8) + 1 {
-        let label = model.label(s);
-        let start = model.start(s);
-        print!(rt; "{s} label {label} start {start} fair")?;
+        print!(rt;
+            "{s} label {} start {} fair",
+            model.label(s),
+            model.start(s)
+        )?;
         for j in 0..sets.min(8) + 1 {
-            let fair = model.fair(j, s);
-            print!(rt; " {fair}")?;
+            print!(rt; " {}", model.fair(j, s))?;
         }
         print!(rt; " to")?;
         successors(rt, model, s)?;
@@ -49,10 +48,7 @@ fn walk<M: Model>(rt: &HostRuntime, model: &M, from: u32, to: u32) -> anyhow::Re
     match path(model, from, to, scratch.as_mut_slice(), list.as_mut_slice()) {
         Ok(Some(len)) => print!(rt; "walk of {len}:")?,
         Ok(None) => print!(rt; "no walk:")?,
-        Err(refusal) => {
-            let number = refusal.number();
-            print!(rt; "refused {number}:")?;
-        }
+        Err(refusal) => print!(rt; "refused {}:", refusal.number())?,
     }
     println!(rt; " {list:?} {scratch:?}")?;
     Ok(())
@@ -68,20 +64,17 @@ fn verdict<M: Model>(
     list: &[u32],
 ) -> anyhow::Result<()> {
     let heap = rt.alloc();
-    let mut bytes = Vec::new(heap);
-    for byte in text.bytes() {
-        bytes.push(if byte == b'/' { b'\n' } else { byte })?;
-    }
+    let bytes: Vec<u8> = text
+        .bytes()
+        .map(|byte| if byte == b'/' { b'\n' } else { byte })
+        .collect(heap)?;
     let Ok(property) = Property::read(bytes.as_slice()) else {
         return Ok(println!(rt; "no property")?);
     };
     let mut scratch = vec![in heap; 5; 16]?;
     match judge(&property, model, list, a, b, scratch.as_mut_slice()) {
         Ok(says) => println!(rt; "{says} {scratch:?}")?,
-        Err(refusal) => {
-            let number = refusal.number();
-            println!(rt; "refused {number} {scratch:?}")?;
-        }
+        Err(refusal) => println!(rt; "refused {} {scratch:?}", refusal.number())?,
     }
     Ok(())
 }
@@ -104,20 +97,17 @@ fn deep(rt: &HostRuntime, table: &Table<'_>, mask: u16, value: u16) -> anyhow::R
     describe(rt, &Clamp::new(both, 256, 0))
 }
 
+// The lower half of a word.
+fn low(word: u32) -> u16 {
+    (word % 65536) as u16
+}
+
 fn pile(rt: &HostRuntime, table: &Table<'_>, kind: &str, args: &[u32]) -> anyhow::Result<()> {
     match (kind, args) {
         ("pair", []) => paired(rt, table),
         ("beside", [sets]) => beside(rt, table, *sets),
-        ("clamp", [mask, value]) => {
-            let mask = (*mask % 65536) as u16;
-            let value = (*value % 65536) as u16;
-            describe(rt, &Clamp::new(table, mask, value))
-        }
-        ("deep", [mask, value]) => {
-            let mask = (*mask % 65536) as u16;
-            let value = (*value % 65536) as u16;
-            deep(rt, table, mask, value)
-        }
+        ("clamp", [mask, value]) => describe(rt, &Clamp::new(table, low(*mask), low(*value))),
+        ("deep", [mask, value]) => deep(rt, table, low(*mask), low(*value)),
         ("walk", [from, to]) => walk(rt, table, *from, *to),
         _ => describe(rt, table),
     }
@@ -125,15 +115,9 @@ fn pile(rt: &HostRuntime, table: &Table<'_>, kind: &str, args: &[u32]) -> anyhow
 
 // Answers a question: its kind, and then its numbers; a judge's property stands before them.
 pub fn ask(rt: &HostRuntime, table: &Table<'_>, question: &str) -> anyhow::Result<()> {
-    let (kind, rest) = match question.split_once(' ') {
-        Some(parts) => parts,
-        None => (question, ""),
-    };
+    let (kind, rest) = question.split_once(' ').unwrap_or((question, ""));
     if kind == "judge" {
-        let (text, words) = match rest.split_once(' ') {
-            Some(parts) => parts,
-            None => (rest, ""),
-        };
+        let (text, words) = rest.split_once(' ').unwrap_or((rest, ""));
         let all = words_of(rt.alloc(), words)?;
         return match all.as_slice() {
             [a, b, list @ ..] => verdict(rt, table, text, *a, *b, list),

@@ -37,10 +37,7 @@ pub fn fill(
     lines: &str,
     store: &mut [u32],
 ) -> anyhow::Result<Result<Sealed, Refusal>> {
-    let (first, rest) = match lines.split_once('/') {
-        Some(parts) => parts,
-        None => (lines, ""),
-    };
+    let (first, rest) = lines.split_once('/').unwrap_or((lines, ""));
     let first = bytes_of(heap, first)?;
     let mut filling = match begin(first.as_slice(), store) {
         Ok(filling) => filling,
@@ -49,9 +46,8 @@ pub fn fill(
     for line in rest.split('/') {
         if !line.is_empty() {
             let bytes = bytes_of(heap, line)?;
-            match filling.feed(bytes.as_slice(), store) {
-                Ok(()) => {}
-                Err(refusal) => return Ok(Err(refusal)),
+            if let Err(refusal) = filling.feed(bytes.as_slice(), store) {
+                return Ok(Err(refusal));
             }
         }
     }

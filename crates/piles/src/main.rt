@@ -28,11 +28,7 @@ fn run_case(rt: &HostRuntime, case: &str) -> anyhow::Result<()> {
             }
             None => asking::ask(rt, &Table::new(&sealed, store.as_slice()), question),
         },
-        Err(refusal) => {
-            let number = refusal.number();
-            let line = refusal.line();
-            Ok(println!(rt; "refused {number} {line}")?)
-        }
+        Err(refusal) => Ok(println!(rt; "refused {} {}", refusal.number(), refusal.line())?),
     }
 }
 

@@ -3,7 +3,7 @@ use Rattle.std.proofs.Common.{◌≡◌, ℕ, suc, ◌+◌, ◌<◌, ◌≤◌, 
 use Rattle.std.proofs.lemmas.List.{get_or-map, get_or-take, length-take, length-take-le}
 use Rattle.frames.specs.Frames.{Node}
 use Rattle.frames.specs.Frames.Node.{apply, truth}
-use Rattle.language.specs.Masks.{bit}
+use Rattle.masks.specs.Masks.{bit}
 use Rattle.language.specs.Properties.{Connective, Property, connective_at, node_width}
 use Rattle.properties.specs.declared.property.Property.{Property as Stored}
 use Rattle.properties.specs.declared.rows.Connective.{Connective as ConnectiveRow}

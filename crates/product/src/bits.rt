@@ -1,6 +1,6 @@
 //! Bits of a mask.
 ghost use Rattle.std.specs.Prelude.{◌≡◌, ℕ, ◌+◌, ◌*◌, ◌^◌, ◌<◌, ◌≤◌, if◌then◌else◌};
-ghost use Rattle.language.specs.Masks.{bit};
+ghost use Rattle.masks.specs.Masks.{bit};
 
 // Whether bit i is set; a word has no bit 32 or above.
 pub(crate) fn has(mask: u32, i: u32) -> bool

@@ -3,7 +3,7 @@ use Rattle.std.proofs.Common.{◌≡◌, ℕ, zero, suc, ◌/◌, ◌%◌, ◌^�
 use lib.Bits.{bit_or}
 use Rattle.std.proofs.lemmas.Nat.{mod_below, or_mod, or_shr}
 use Rattle.std.proofs.lemmas.Bool.{and_parts, eqb-true, cases_order}
-use Rattle.language.specs.Masks.{bit}
+use Rattle.masks.specs.Masks.{bit}
 
 every_below : ℕ → (ℕ → Bool) → Bool
 every_below zero p = true

@@ -4,7 +4,7 @@ use mathlib.Core.Path.{fun_ext}
 use lib.Bits.{bit_or}
 use Rattle.std.proofs.lemmas.List.{get_or-map, get_or-set_other, get_or-set_same, get_or-take, length-take-le}
 use Rattle.std.proofs.lemmas.Bool.{eqb-false, eqb-true, ltb-false, ltb-true, ne_eqb}
-use Rattle.language.specs.Masks.{bit}
+use Rattle.masks.specs.Masks.{bit}
 use Rattle.language.specs.Properties.{Connective, connective_at, idle}
 use Rattle.language.specs.Reading.{moving}
 use Rattle.properties.specs.declared.rows.Connective.{Connective as ConnectiveRow}

@@ -7,7 +7,7 @@ use Rattle.frames.specs.Areas.{written}
 use Rattle.frames.specs.Digits.{hexadecimal}
 use Rattle.frames.proofs.Written.{written_append}
 use Rattle.language.specs.Canonical.{each, spelled, text_of, transition_line}
-use Rattle.language.specs.Masks.{bit}
+use Rattle.masks.specs.Masks.{bit}
 use Rattle.properties.specs.declared.rows.Connective.{Connective as ConnectiveRow}
 use Rattle.properties.specs.Views.{connective_of}
 

@@ -7,7 +7,7 @@ use Rattle.std.proofs.lemmas.Bool.{and_from, and_left, and_right, cases_lt, cond
 use Rattle.frames.specs.declared.faults.Refusal.TheVariants.{Order, Value, Limit}
 use Rattle.frames.specs.Frames.{Frame, Node}
 use Rattle.frames.specs.Frames.Node.{apply}
-use Rattle.language.specs.Masks.{bit}
+use Rattle.masks.specs.Masks.{bit}
 use Rattle.language.specs.Properties.{Connective, Property, all_below, connective_at, idle, node_fits, node_width, width, WellFormed}
 use Rattle.language.specs.Reading.{Draft, extended, in_order, in_range, is_empty, latest, taken, within_limits}
 use Rattle.properties.specs.declared.drafts.Draft.{Draft as DraftRows}

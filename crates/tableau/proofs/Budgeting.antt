@@ -8,7 +8,7 @@ use lib.Dec.{T}
 use Rattle.frames.specs.Frames.{Node}
 use Rattle.frames.specs.Frames.Node.{proposition, truth, negation, next, both, either, apply}
 use Rattle.kripke.specs.Models.{Kripke}
-use Rattle.language.specs.Masks.{bit}
+use Rattle.masks.specs.Masks.{bit}
 use Rattle.language.specs.Properties.{Property, WellFormed, connective_at, node_width}
 use Rattle.logic.specs.Truth.{node_at}
 use Rattle.logic.specs.Product.{start_of}

@@ -9,7 +9,7 @@ use lib.ListN.{length, get_or}
 use Rattle.frames.specs.Frames.Node.{apply}
 use Rattle.kripke.specs.Models.{Kripke}
 use Rattle.kripke.specs.Lassos.{Lasso, LassoOf, at, follower}
-use Rattle.language.specs.Masks.{bit}
+use Rattle.masks.specs.Masks.{bit}
 use Rattle.language.specs.Properties.{Property, connective_at}
 use Rattle.logic.specs.Truth.{node_at, Accepts, later}
 use Rattle.logic.specs.OnLassos.{lasso_line}

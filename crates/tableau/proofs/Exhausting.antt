@@ -7,7 +7,7 @@ use Prim.Native.Nat.{ℕ, ◌<◌}
 use lib.Dec.{T}
 use Rattle.frames.specs.Frames.Node.{apply}
 use Rattle.kripke.specs.Models.{Kripke}
-use Rattle.language.specs.Masks.{bit}
+use Rattle.masks.specs.Masks.{bit}
 use Rattle.language.specs.Properties.{Property, WellFormed, connective_at}
 use Rattle.logic.specs.Truth.{node_at, root}
 use Rattle.tableau.specs.Walks.{Vertex, IsVertex, Edge, ProductWalk, ProductReaches, StronglyConnected, Discharges, Accepting, everywhere, claimed_at, holds_at}

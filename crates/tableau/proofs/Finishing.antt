@@ -12,7 +12,7 @@ use lib.Seq.{get_or-append-add}
 use Rattle.frames.specs.Frames.Node.{apply}
 use Rattle.kripke.specs.Models.{Kripke}
 use Rattle.kripke.specs.Lassos.{Lasso, LassoOf, Fair, at, follower, step}
-use Rattle.language.specs.Masks.{bit}
+use Rattle.masks.specs.Masks.{bit}
 use Rattle.language.specs.Properties.{Property, WellFormed, connective_at}
 use Rattle.logic.specs.Truth.{node_at, root, Line, Fulfilled, later}
 use Rattle.logic.specs.OnLassos.{lasso_line}

@@ -9,7 +9,7 @@ use native.Mathlib.Numerals.{add-one}
 use native.Mathlib.Omega.{arith}
 use lib.Dec.{T, eqb, eqb→eq, eqb_refl}
 use lib.ListN.{length, get_or}
-use Rattle.language.specs.Masks.{bit}
+use Rattle.masks.specs.Masks.{bit}
 use Rattle.language.specs.Properties.{connective_at}
 use Rattle.logic.specs.Product.{mask_of, some_below}
 use Rattle.logic.proofs.Bools.{T_same, T_and, and_T, T_or_left, T_or_right, or_T, some_in, some_out}

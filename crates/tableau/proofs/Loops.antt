@@ -11,7 +11,7 @@ use lib.ListN.{length, get_or, take, length-append, length-map, length-take, get
 use lib.Seq.{get_or-append-add, get_or-append_seam}
 use Rattle.frames.specs.Frames.Node.{apply}
 use Rattle.kripke.specs.Models.{Kripke}
-use Rattle.language.specs.Masks.{bit}
+use Rattle.masks.specs.Masks.{bit}
 use Rattle.language.specs.Properties.{Property, WellFormed, connective_at}
 use Rattle.logic.specs.Truth.{node_at, root}
 use Rattle.logic.specs.OnLassos.{Counterexample}

@@ -11,7 +11,7 @@ use lib.Pow.{pow_mono}
 use Rattle.frames.specs.Frames.{Node}
 use Rattle.frames.specs.Frames.Node.{proposition, truth, negation, next, both, either, apply}
 use Rattle.kripke.specs.Models.{Kripke}
-use Rattle.language.specs.Masks.{bit}
+use Rattle.masks.specs.Masks.{bit}
 use Rattle.language.specs.Properties.{Connective, Property, WellFormed, connective_at, node_width}
 use Rattle.logic.specs.Truth.{node_at}
 use Rattle.logic.specs.Product.{mask_of, some_below}

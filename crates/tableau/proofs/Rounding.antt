@@ -10,7 +10,7 @@ use lib.Dec.{T, eqb, eqb→eq, eqb_refl, ltb, ltb→lt, lt→ltb}
 use lib.ListN.{get_or}
 use Rattle.frames.specs.Frames.Node.{apply}
 use Rattle.kripke.specs.Models.{Kripke}
-use Rattle.language.specs.Masks.{bit}
+use Rattle.masks.specs.Masks.{bit}
 use Rattle.language.specs.Properties.{Connective, Property, connective_at}
 use Rattle.logic.specs.Truth.{node_at}
 use Rattle.logic.specs.Product.{some_below, start_of}

@@ -11,7 +11,7 @@ use lib.ListN.{length, get_or}
 use Rattle.frames.specs.Frames.{Node}
 use Rattle.frames.specs.Frames.Node.{truth, apply}
 use Rattle.kripke.specs.Models.{Kripke}
-use Rattle.language.specs.Masks.{bit}
+use Rattle.masks.specs.Masks.{bit}
 use Rattle.language.specs.Properties.{Property, connective_at}
 use Rattle.logic.specs.Truth.{node_at}
 use Rattle.logic.specs.Product.{mask_width, back}

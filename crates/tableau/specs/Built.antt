@@ -3,7 +3,7 @@ use Rattle.std.specs.Prelude.{◌≡◌, Bool, List, [], ◌∷◌, ◌++◌, ma
 use Rattle.frames.specs.Frames.Node.{apply}
 use Rattle.kripke.specs.Models.{Kripke}
 use Rattle.kripke.specs.Lassos.{Lasso}
-use Rattle.language.specs.Masks.{bit}
+use Rattle.masks.specs.Masks.{bit}
 use Rattle.language.specs.Properties.{Property, WellFormed, connective_at}
 use Rattle.logic.specs.Truth.{node_at, root}
 use Rattle.logic.specs.OnLassos.{Counterexample}

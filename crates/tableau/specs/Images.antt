@@ -1,7 +1,7 @@
 -- The image of a mask by a table, as code makes it.
 use Rattle.std.specs.Prelude.{◌≡◌, Bool, cond, ◌&&◌, List, ℕ, ◌<◌, eqb, length, get_or}
 use Rattle.kripke.specs.Models.{Kripke}
-use Rattle.language.specs.Masks.{bit}
+use Rattle.masks.specs.Masks.{bit}
 use Rattle.language.specs.Properties.{Property, connective_at}
 use Rattle.logic.specs.Product.{mask_of, some_below}
 use Rattle.tableau.specs.Walks.{Vertex}

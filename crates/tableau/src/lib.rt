@@ -13,7 +13,7 @@ ghost use Rattle.tableau.specs.Rounds.{Begins, Extends, Finishes, NextNode, Roun
 ghost use Rattle.tableau.specs.Verdicts.{Verdicts};
 ghost use Rattle.tableau.specs.Walks.{LoopsAccept};
 
-pub mod masks;
+pub mod image;
 
 // A strongly connected set that holds the loop of the shadow of a fair lasso is accepting.
 pub fn loops_accept()

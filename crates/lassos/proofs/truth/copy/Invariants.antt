@@ -1,5 +1,5 @@
 use Rattle.std.proofs.Common.{◌≡◌, ℕ, ◌<◌, ◌≤◌, get_or}
-use Rattle.language.specs.Masks.{bit}
+use Rattle.masks.specs.Masks.{bit}
 use Rattle.lassos.proofs.truth.copy.Given as goal
 
 abbrev pub invariant-loop-i : goal.invariant-loop-i

@@ -6,19 +6,16 @@ use Rattle.lassos.proofs.truth.tell.Goals as goal
 pub bounds-property-connective : goal.bounds-property-connective
 bounds-property-connective g c = row_in c.args.property.now c.args.k c.in-Apply.connective c.in-Apply.arity c.in-Apply.operands (omega arith) (sym c.in-Apply.is)
 
-pub fulfil-requires : goal.fulfil-requires
-fulfil-requires g c = record {
-  fits = connective_row_fits c.args.property.now c.args.k c.in-Apply.connective c.in-Apply.arity c.in-Apply.operands (omega arith) (sym c.in-Apply.is);
-  sized = (omega arith, omega arith);
-}
+pub invariant_of-fulfil : goal.invariant_of-fulfil
+invariant_of-fulfil g c = record { fits = connective_row_fits c.args.property.now c.args.k c.in-Apply.connective c.in-Apply.arity c.in-Apply.operands (omega arith) (sym c.in-Apply.is) }
 
 pub returns-in-Apply : goal.returns-in-Apply
 returns-in-Apply g c =
     tells_filled c.args.property.now c.args.k c.in-Apply.connective c.in-Apply.arity c.in-Apply.operands (omega arith) (sym c.in-Apply.is)
-    (λ i. (g.M.Model.marking c.args.model.now).label (get_or c.args.list.now i 0)) (length c.args.list.now) c.args.a c.args.bits.now (omega arith) (omega arith) c.requires.known
+    (λ i. (g.M.Model.marking c.args.model.now).label (get_or c.args.rounds.now.list.now i 0)) (length c.args.rounds.now.list.now) c.args.rounds.now.stem c.args.bits.now (omega arith) (omega arith) c.requires.known
     c.fulfil.new.sets c.fulfil.ensures
 
 pub returns-in_default : goal.returns-in_default
 returns-in_default g c =
-    tells_marked c.args.property.now (λ i. (g.M.Model.marking c.args.model.now).label (get_or c.args.list.now i 0)) (length c.args.list.now) c.args.a c.args.k c.args.bits.now
+    tells_marked c.args.property.now (λ i. (g.M.Model.marking c.args.model.now).label (get_or c.args.rounds.now.list.now i 0)) (length c.args.rounds.now.list.now) c.args.rounds.now.stem c.args.k c.args.bits.now
     (get_or c.args.property.now.rows.nodes c.args.k True) (omega arith) refl (omega arith) c.requires.known (simple_from _ c.in_default.not-Apply) c.mark.new.sets c.mark.ensures

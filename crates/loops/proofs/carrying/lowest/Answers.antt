@@ -1,5 +1,5 @@
 use Rattle.std.proofs.Common.{◌≡◌, ap, ◌∙◌, arith}
-use Rattle.language.specs.Masks.{bit}
+use Rattle.masks.specs.Masks.{bit}
 use Rattle.logic.specs.Product.{some_below}
 use Rattle.product.proofs.Loops.{some_not}
 use Rattle.loops.proofs.Lowest.{lowest_found, lowest_none}

@@ -1,5 +1,5 @@
 use Rattle.std.proofs.Common.{◌≡◌, false}
-use Rattle.language.specs.Masks.{bit}
+use Rattle.masks.specs.Masks.{bit}
 use Rattle.logic.specs.Product.{some_below}
 use Rattle.loops.proofs.carrying.lowest.Given as goal
 

@@ -1,9 +1,7 @@
+use Rattle.std.proofs.Common.{ap, ◌∙◌}
 use Rattle.models.specs.Entries.{entry}
-use Rattle.models.proofs.Lines.{alone_told, more_told}
+use Rattle.models.proofs.Lines.{entry_head}
 use Rattle.models.proofs.entries.lone_entry.Goals as goal
 
-pub returns-then-size-line : goal.returns-then-size-line
-returns-then-size-line c = more_told entry c.args.line.now c.in_ok-said.said c.in_ok-said.size c.in_ok-said.ensures c.if-size-line.true
-
 pub returns : goal.returns
-returns c = alone_told entry c.args.line.now c.in_ok-said.said c.in_ok-said.size c.in_ok-said.ensures c.if-size-line.false
+returns c = c.lone.ensures entry (record { is = λ bytes said gives. gives.1 ∙ ap entry gives.2; enough = entry_head })

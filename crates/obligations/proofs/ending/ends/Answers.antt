@@ -1,6 +1,6 @@
 use Rattle.std.proofs.Common.{◌≡◌, false, sym, refl, ap, ◌∙◌}
 use Rattle.frames.specs.Frames.{Node}
-use Rattle.language.specs.Masks.{bit}
+use Rattle.masks.specs.Masks.{bit}
 use Rattle.properties.specs.Meaning.{meaning}
 use Rattle.product.proofs.Nodes.{node_is}
 use Rattle.product.proofs.Vertex.{applied_fits, applied_state, connective_low}

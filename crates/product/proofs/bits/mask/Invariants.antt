@@ -1,5 +1,5 @@
 use Rattle.std.proofs.Common.{ℕ, ◌^◌, ◌<◌}
-use Rattle.language.specs.Masks.{bit}
+use Rattle.masks.specs.Masks.{bit}
 use Rattle.product.proofs.bits.mask.Given as goal
 
 abbrev pub invariant-loop-i : goal.invariant-loop-i

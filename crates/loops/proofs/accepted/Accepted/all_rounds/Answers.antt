@@ -11,13 +11,13 @@ use Rattle.loops.proofs.accepted.Accepted.all_rounds.Goals as goal
 
 pub loop-k-init : goal.loop-k-init
 loop-k-init g c =
-    let inside = c.args.self.now.obligations.now.inside in
+    let inside = c.args.self.now.obligations.inside in
     let m : Kripke = model_in (record { states = g.M.Graph.states; edge = g.M.Graph.edge; marking = g.M.Model.marking }) inside in
     (nodes_begin m (property_in inside) (set_in inside) c.args.self.now.x (index_in inside) c.args.words.now c.requires.setting, refl {a = drop 1 c.args.words.now}, refl)
 
 pub node_rounds-at-requires : goal.node_rounds-at-requires
 node_rounds-at-requires g c =
-    let inside = c.args.self.now.obligations.now.inside in
+    let inside = c.args.self.now.obligations.inside in
     let m : Kripke = model_in (record { states = g.M.Graph.states; edge = g.M.Graph.edge; marking = g.M.Model.marking }) inside in
     let f = property_in inside in
     let kept = c.loop-k.auto.words in
@@ -32,7 +32,7 @@ node_rounds-at-requires g c =
 
 pub loop-k-preserved : goal.loop-k-preserved
 loop-k-preserved g c =
-    let inside = c.args.self.now.obligations.now.inside in
+    let inside = c.args.self.now.obligations.inside in
     let m : Kripke = model_in (record { states = g.M.Graph.states; edge = g.M.Graph.edge; marking = g.M.Model.marking }) inside in
     let further : c.loop-k.at ≤ c.node_rounds-at.result = c.node_rounds-at.ensures.further in (
       subst (λ k. NodesDone m (property_in inside) (set_in inside) c.args.self.now.x k c.node_rounds-at.result c.node_rounds-at.new.words) (sym (add-one c.loop-k.k)) c.node_rounds-at.ensures.done,
@@ -42,7 +42,7 @@ loop-k-preserved g c =
 
 pub returns : goal.returns
 returns g c =
-    let inside = c.args.self.now.obligations.now.inside in
+    let inside = c.args.self.now.obligations.inside in
     let m : Kripke = model_in (record { states = g.M.Graph.states; edge = g.M.Graph.edge; marking = g.M.Model.marking }) inside in
     let f = property_in inside in
     let left = c.loop-k-test.false in

@@ -9,8 +9,8 @@ use Rattle.loops.proofs.accepted.Accepted.build_loop.Goals as goal
 
 pub all_rounds-at-requires : goal.all_rounds-at-requires
 all_rounds-at-requires g c =
-    let m : Kripke = model_in (record { states = g.M.Graph.states; edge = g.M.Graph.edge; marking = g.M.Model.marking }) c.args.self.now.obligations.now.inside in
-    let f = property_in c.args.self.now.obligations.now.inside in
+    let m : Kripke = model_in (record { states = g.M.Graph.states; edge = g.M.Graph.edge; marking = g.M.Model.marking }) c.args.self.now.obligations.inside in
+    let f = property_in c.args.self.now.obligations.inside in
     let n : ℕ = vertices m f in
     let rounds : ℕ = mask_width f * mask_width f * n in
     record {
@@ -21,9 +21,9 @@ all_rounds-at-requires g c =
 
 pub returns : goal.returns
 returns g c =
-    let m : Kripke = model_in (record { states = g.M.Graph.states; edge = g.M.Graph.edge; marking = g.M.Model.marking }) c.args.self.now.obligations.now.inside in
-    let f = property_in c.args.self.now.obligations.now.inside in
-    let G : ℕ → Bool = set_in c.args.self.now.obligations.now.inside in
+    let m : Kripke = model_in (record { states = g.M.Graph.states; edge = g.M.Graph.edge; marking = g.M.Model.marking }) c.args.self.now.obligations.inside in
+    let f = property_in c.args.self.now.obligations.inside in
+    let G : ℕ → Bool = set_in c.args.self.now.obligations.inside in
     let rounds = c.all_rounds-at.ensures in
     let visits = c.visit_all-stands.ensures in
     record {

@@ -14,18 +14,18 @@ use Rattle.loops.proofs.accepted.Accepted.close.Goals as goal
 
 pub unwrap-next-requires : goal.unwrap-next-requires
 unwrap-next-requires g c =
-    let m : Kripke = model_in (record { states = g.M.Graph.states; edge = g.M.Graph.edge; marking = g.M.Model.marking }) c.args.self.now.obligations.now.inside in
-    let f = property_in c.args.self.now.obligations.now.inside in
-    let G : ℕ → Bool = set_in c.args.self.now.obligations.now.inside in
+    let m : Kripke = model_in (record { states = g.M.Graph.states; edge = g.M.Graph.edge; marking = g.M.Model.marking }) c.args.self.now.obligations.inside in
+    let f = property_in c.args.self.now.obligations.inside in
+    let G : ℕ → Bool = set_in c.args.self.now.obligations.inside in
     let edge = c.requires.setting.tested.edge in
     some_from (Lowest (vertices m f) (inner_edge m f G c.args.stands.vertex) 0) c.next.result c.next.ensures.lowest
     (λ none. no_edge m f G c.requires.setting.joined c.args.stands.vertex c.requires.visited.inside (λ z. none z zero-le) edge.0 edge.1 edge.2 edge.3 edge.4)
 
 pub route-count-requires : goal.route-count-requires
 route-count-requires g c =
-    let m : Kripke = model_in (record { states = g.M.Graph.states; edge = g.M.Graph.edge; marking = g.M.Model.marking }) c.args.self.now.obligations.now.inside in
-    let f = property_in c.args.self.now.obligations.now.inside in
-    let G : ℕ → Bool = set_in c.args.self.now.obligations.now.inside in
+    let m : Kripke = model_in (record { states = g.M.Graph.states; edge = g.M.Graph.edge; marking = g.M.Model.marking }) c.args.self.now.obligations.inside in
+    let f = property_in c.args.self.now.obligations.inside in
+    let G : ℕ → Bool = set_in c.args.self.now.obligations.inside in
     let lowest = rw c.unwrap-next.ensures at c.next.ensures.lowest in
     record {
       ends = (lowest.1, c.requires.setting.vertex);
@@ -36,8 +36,8 @@ route-count-requires g c =
 
 pub copy_states-requires : goal.copy_states-requires
 copy_states-requires g c =
-    let m : Kripke = model_in (record { states = g.M.Graph.states; edge = g.M.Graph.edge; marking = g.M.Model.marking }) c.args.self.now.obligations.now.inside in
-    let n : ℕ = vertices m (property_in c.args.self.now.obligations.now.inside) in
+    let m : Kripke = model_in (record { states = g.M.Graph.states; edge = g.M.Graph.edge; marking = g.M.Model.marking }) c.args.self.now.obligations.inside in
+    let n : ℕ = vertices m (property_in c.args.self.now.obligations.inside) in
     let size : ℕ = c.states-size.result in
     let count : ℕ = c.route-count.result in
     let at : ℕ = c.args.stands.at in
@@ -55,9 +55,9 @@ copy_states-requires g c =
 
 pub returns : goal.returns
 returns g c =
-    let m : Kripke = model_in (record { states = g.M.Graph.states; edge = g.M.Graph.edge; marking = g.M.Model.marking }) c.args.self.now.obligations.now.inside in
-    let f = property_in c.args.self.now.obligations.now.inside in
-    let G : ℕ → Bool = set_in c.args.self.now.obligations.now.inside in
+    let m : Kripke = model_in (record { states = g.M.Graph.states; edge = g.M.Graph.edge; marking = g.M.Model.marking }) c.args.self.now.obligations.inside in
+    let f = property_in c.args.self.now.obligations.inside in
+    let G : ℕ → Bool = set_in c.args.self.now.obligations.inside in
     let n : ℕ = vertices m f in
     let size : ℕ = c.states-size.result in
     let masks : ℕ = c.size-masks.result in

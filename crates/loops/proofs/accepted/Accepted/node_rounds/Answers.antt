@@ -8,11 +8,11 @@ use Rattle.loops.proofs.Rounded.{counted}
 use Rattle.loops.proofs.accepted.Accepted.node_rounds.Goals as goal
 
 pub pending-requires : goal.pending-requires
-pending-requires g c = counted c.args.self.now.obligations.now.inside.product.now.plan.now.property c.args.k c.requires.node
+pending-requires g c = counted c.args.self.now.obligations.inside.product.now.plan.now.property c.args.k c.requires.node
 
 pub loop-done-init : goal.loop-done-init
 loop-done-init g c =
-    let inside = c.args.self.now.obligations.now.inside in
+    let inside = c.args.self.now.obligations.inside in
     let m : Kripke = model_in (record { states = g.M.Graph.states; edge = g.M.Graph.edge; marking = g.M.Model.marking }) inside in
     let f = property_in inside in (
       way_begins m f (set_in inside) c.args.self.now.x c.args.k c.args.at c.pending.result (index_in inside) c.args.words.now c.requires.setting c.requires.done
@@ -22,7 +22,7 @@ loop-done-init g c =
 
 pub round-done-requires : goal.round-done-requires
 round-done-requires g c =
-    let inside = c.args.self.now.obligations.now.inside in
+    let inside = c.args.self.now.obligations.inside in
     let m : Kripke = model_in (record { states = g.M.Graph.states; edge = g.M.Graph.edge; marking = g.M.Model.marking }) inside in
     let f = property_in inside in
     let taken = c.loop-done-test.true in
@@ -37,7 +37,7 @@ round-done-requires g c =
 
 pub loop-done-preserved : goal.loop-done-preserved
 loop-done-preserved g c =
-    let inside = c.args.self.now.obligations.now.inside in
+    let inside = c.args.self.now.obligations.inside in
     let m : Kripke = model_in (record { states = g.M.Graph.states; edge = g.M.Graph.edge; marking = g.M.Model.marking }) inside in
     let taken = c.loop-done-test.true in (
       way_on m (property_in inside) (set_in inside) c.args.self.now.x c.args.k c.args.at c.args.words.now c.loop-done.done c.loop-done.words c.requires.node c.loop-done.invariant.0 (omega arith)
@@ -47,7 +47,7 @@ loop-done-preserved g c =
 
 pub returns : goal.returns
 returns g c =
-    let inside = c.args.self.now.obligations.now.inside in
+    let inside = c.args.self.now.obligations.inside in
     let m : Kripke = model_in (record { states = g.M.Graph.states; edge = g.M.Graph.edge; marking = g.M.Model.marking }) inside in
     record {
       done = way_ends m (property_in inside) (set_in inside) c.args.self.now.x c.args.k c.args.at c.args.words.now c.loop-done.done c.loop-done.words c.requires.node c.loop-done.invariant.0

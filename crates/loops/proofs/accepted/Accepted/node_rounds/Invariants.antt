@@ -6,8 +6,8 @@ use Rattle.loops.proofs.accepted.Accepted.node_rounds.Given as goal
 
 abbrev pub invariant-loop-done : goal.invariant-loop-done
 invariant-loop-done g l =
-    UnderWay (model_in (record { states = g.M.Graph.states; edge = g.M.Graph.edge; marking = g.M.Model.marking }) l.self.obligations.now.inside) (property_in l.self.obligations.now.inside) (set_in l.self.obligations.now.inside) l.self.x l.k l.at l.initial.words l.done l.words
+    UnderWay (model_in (record { states = g.M.Graph.states; edge = g.M.Graph.edge; marking = g.M.Model.marking }) l.self.obligations.inside) (property_in l.self.obligations.inside) (set_in l.self.obligations.inside) l.self.x l.k l.at l.initial.words l.done l.words
     × (l.finder ≡ l.initial.finder)
 
 abbrev pub decreases-loop-done : goal.decreases-loop-done
-decreases-loop-done g l = due_count (property_in l.self.obligations.now.inside) l.k l.done.due
+decreases-loop-done g l = due_count (property_in l.self.obligations.inside) l.k l.done.due

@@ -13,19 +13,19 @@ use Rattle.loops.proofs.Rounded.{counted, is_due, out_few, out_low, round_made, 
 use Rattle.loops.proofs.accepted.Accepted.round.Goals as goal
 
 pub node_width-requires : goal.node_width-requires
-node_width-requires g c = counted c.args.self.now.obligations.now.inside.product.now.plan.now.property c.args.k c.requires.ready.node
+node_width-requires g c = counted c.args.self.now.obligations.inside.product.now.plan.now.property c.args.k c.requires.ready.node
 
 pub lowest-q-requires : goal.lowest-q-requires
 lowest-q-requires g c =
     let small : c.node_width.result ≤ 8 = c.node_width.ensures.small in (
       some_state c.args.done.due c.node_width.result
-          (node_width (property_in c.args.self.now.obligations.now.inside).connectives (node_at (property_in c.args.self.now.obligations.now.inside) c.args.k)) c.node_width.ensures.is c.requires.ready.fits c.requires.ready.some,
+          (node_width (property_in c.args.self.now.obligations.inside).connectives (node_at (property_in c.args.self.now.obligations.inside) c.args.k)) c.node_width.ensures.is c.requires.ready.fits c.requires.ready.some,
       omega arith,
     )
 
 pub overflow_mul-from : goal.overflow_mul-from
 overflow_mul-from g c =
-    let inside = c.args.self.now.obligations.now.inside in
+    let inside = c.args.self.now.obligations.inside in
     let plan = inside.product.now.plan.now in
     let m : Kripke = model_in (record { states = g.M.Graph.states; edge = g.M.Graph.edge; marking = g.M.Model.marking }) inside in
     let few : c.args.self.now.x + (get_or plan.starts c.args.k 0 + c.lowest-q.result + 1) * c.states-size.result ≤ 16777216 =
@@ -36,7 +36,7 @@ overflow_mul-from g c =
 
 pub overflow_add-from-3 : goal.overflow_add-from-3
 overflow_add-from-3 g c =
-    let inside = c.args.self.now.obligations.now.inside in
+    let inside = c.args.self.now.obligations.inside in
     let plan = inside.product.now.plan.now in
     let m : Kripke = model_in (record { states = g.M.Graph.states; edge = g.M.Graph.edge; marking = g.M.Model.marking }) inside in
     Fits-below {n = 16777216} tt
@@ -46,7 +46,7 @@ overflow_add-from-3 g c =
 
 pub route-count-requires : goal.route-count-requires
 route-count-requires g c =
-    let inside = c.args.self.now.obligations.now.inside in
+    let inside = c.args.self.now.obligations.inside in
     let plan = inside.product.now.plan.now in
     let m : Kripke = model_in (record { states = g.M.Graph.states; edge = g.M.Graph.edge; marking = g.M.Model.marking }) inside in
     let f = property_in inside in
@@ -68,7 +68,7 @@ route-count-requires g c =
 
 pub overflow_sub-left : goal.overflow_sub-left
 overflow_sub-left g c =
-    let inside = c.args.self.now.obligations.now.inside in
+    let inside = c.args.self.now.obligations.inside in
     let m : Kripke = model_in (record { states = g.M.Graph.states; edge = g.M.Graph.edge; marking = g.M.Model.marking }) inside in
     let small : c.node_width.result ≤ 8 = c.node_width.ensures.small in
     let low : c.lowest-q.result < c.node_width.result = c.lowest-q.ensures.low in
@@ -82,7 +82,7 @@ carry_along-due-requires g c =
     let size = c.states-size.ensures.is in
     let vertex = c.requires.setting.vertex in
     record {
-      node = counted c.args.self.now.obligations.now.inside.product.now.plan.now.property c.args.k c.requires.ready.node;
+      node = counted c.args.self.now.obligations.inside.product.now.plan.now.property c.args.k c.requires.ready.node;
       sizes = (c.states-size.ensures.is, omega arith);
     }
 
@@ -90,7 +90,7 @@ pub to_states-requires : goal.to_states-requires
 to_states-requires g c =
     let size = c.states-size.ensures.is in
     let vertex = c.requires.setting.vertex in
-    let inside = c.args.self.now.obligations.now.inside in
+    let inside = c.args.self.now.obligations.inside in
     let m : Kripke = model_in (record { states = g.M.Graph.states; edge = g.M.Graph.edge; marking = g.M.Model.marking }) inside in
     let some : 0 < c.route-count.result = c.route-count.ensures.routed.some in
     let within : c.route-count.result ≤ c.states-room.result = c.route-count.ensures.routed.within in
@@ -104,7 +104,7 @@ to_states-requires g c =
 
 pub returns : goal.returns
 returns g c =
-    let inside = c.args.self.now.obligations.now.inside in
+    let inside = c.args.self.now.obligations.inside in
     let plan = inside.product.now.plan.now in
     let m : Kripke = model_in (record { states = g.M.Graph.states; edge = g.M.Graph.edge; marking = g.M.Model.marking }) inside in
     let small : c.node_width.result ≤ 8 = c.node_width.ensures.small in

@@ -13,16 +13,16 @@ use Rattle.loops.proofs.accepted.Accepted.visit.Goals as goal
 
 pub unwrap-vertex-requires : goal.unwrap-vertex-requires
 unwrap-vertex-requires g c =
-    let m : Kripke = model_in (record { states = g.M.Graph.states; edge = g.M.Graph.edge; marking = g.M.Model.marking }) c.args.self.now.obligations.now.inside in
-    let f = property_in c.args.self.now.obligations.now.inside in
-    let G : ℕ → Bool = set_in c.args.self.now.obligations.now.inside in
+    let m : Kripke = model_in (record { states = g.M.Graph.states; edge = g.M.Graph.edge; marking = g.M.Model.marking }) c.args.self.now.obligations.inside in
+    let f = property_in c.args.self.now.obligations.inside in
+    let G : ℕ → Bool = set_in c.args.self.now.obligations.inside in
     some_from (Met G (λ y. m.fair c.args.j (vertex_of f y).state)) c.fair_vertex.result c.fair_vertex.ensures (some_fair m f G c.args.self.now.x c.args.j c.requires.setting.tested c.requires.set)
 
 pub route-count-requires : goal.route-count-requires
 route-count-requires g c =
-    let m : Kripke = model_in (record { states = g.M.Graph.states; edge = g.M.Graph.edge; marking = g.M.Model.marking }) c.args.self.now.obligations.now.inside in
-    let f = property_in c.args.self.now.obligations.now.inside in
-    let G : ℕ → Bool = set_in c.args.self.now.obligations.now.inside in
+    let m : Kripke = model_in (record { states = g.M.Graph.states; edge = g.M.Graph.edge; marking = g.M.Model.marking }) c.args.self.now.obligations.inside in
+    let f = property_in c.args.self.now.obligations.inside in
+    let G : ℕ → Bool = set_in c.args.self.now.obligations.inside in
     let met = rw c.unwrap-vertex.ensures at c.fair_vertex.ensures in
     record {
       ends = (c.requires.visited.vertex, member_low m f G c.args.self.now.x c.requires.setting.joined c.requires.setting.tested c.unwrap-vertex.result met.0);
@@ -33,8 +33,8 @@ route-count-requires g c =
 
 pub copy_states-requires : goal.copy_states-requires
 copy_states-requires g c =
-    let m : Kripke = model_in (record { states = g.M.Graph.states; edge = g.M.Graph.edge; marking = g.M.Model.marking }) c.args.self.now.obligations.now.inside in
-    let n : ℕ = vertices m (property_in c.args.self.now.obligations.now.inside) in
+    let m : Kripke = model_in (record { states = g.M.Graph.states; edge = g.M.Graph.edge; marking = g.M.Model.marking }) c.args.self.now.obligations.inside in
+    let n : ℕ = vertices m (property_in c.args.self.now.obligations.inside) in
     let size : ℕ = c.states-size.result in
     let count : ℕ = c.route-count.result in
     let few : count ≤ size = c.route-count.ensures.routed.within in
@@ -46,9 +46,9 @@ copy_states-requires g c =
 
 pub returns : goal.returns
 returns g c =
-    let m : Kripke = model_in (record { states = g.M.Graph.states; edge = g.M.Graph.edge; marking = g.M.Model.marking }) c.args.self.now.obligations.now.inside in
-    let f = property_in c.args.self.now.obligations.now.inside in
-    let G : ℕ → Bool = set_in c.args.self.now.obligations.now.inside in
+    let m : Kripke = model_in (record { states = g.M.Graph.states; edge = g.M.Graph.edge; marking = g.M.Model.marking }) c.args.self.now.obligations.inside in
+    let f = property_in c.args.self.now.obligations.inside in
+    let G : ℕ → Bool = set_in c.args.self.now.obligations.inside in
     let n : ℕ = vertices m f in
     let size : ℕ = c.states-size.result in
     let count : ℕ = c.route-count.result in

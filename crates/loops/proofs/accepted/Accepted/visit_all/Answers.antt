@@ -8,8 +8,8 @@ use Rattle.loops.proofs.accepted.Accepted.visit_all.Goals as goal
 
 pub visit-stands-requires : goal.visit-stands-requires
 visit-stands-requires g c =
-    let m : Kripke = model_in (record { states = g.M.Graph.states; edge = g.M.Graph.edge; marking = g.M.Model.marking }) c.args.self.now.obligations.now.inside in
-    let f = property_in c.args.self.now.obligations.now.inside in
+    let m : Kripke = model_in (record { states = g.M.Graph.states; edge = g.M.Graph.edge; marking = g.M.Model.marking }) c.args.self.now.obligations.inside in
+    let f = property_in c.args.self.now.obligations.inside in
     let inv = c.loop-j.invariant in
     let more : c.loop-j.j < m.sets = subst (λ n. c.loop-j.j < n) c.fair_sets-j-end.ensures.is c.loop-j-test.true in
     record {
@@ -23,8 +23,8 @@ visit-stands-requires g c =
 
 pub loop-j-preserved : goal.loop-j-preserved
 loop-j-preserved g c =
-    let m : Kripke = model_in (record { states = g.M.Graph.states; edge = g.M.Graph.edge; marking = g.M.Model.marking }) c.args.self.now.obligations.now.inside in
-    let n : ℕ = vertices m (property_in c.args.self.now.obligations.now.inside) in
+    let m : Kripke = model_in (record { states = g.M.Graph.states; edge = g.M.Graph.edge; marking = g.M.Model.marking }) c.args.self.now.obligations.inside in
+    let n : ℕ = vertices m (property_in c.args.self.now.obligations.inside) in
     let inv = c.loop-j.invariant in
     let made = c.visit-stands.ensures in
     let here : ℕ = c.loop-j.stands.at in

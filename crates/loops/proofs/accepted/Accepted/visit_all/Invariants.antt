@@ -9,9 +9,9 @@ use Rattle.loops.proofs.accepted.Accepted.visit_all.Given as goal
 -- the first j fair sets are visited, with at most one walk's words for each
 abbrev pub invariant-loop-j : goal.invariant-loop-j
 invariant-loop-j g l =
-    let m : Kripke = model_in (record { states = g.M.Graph.states; edge = g.M.Graph.edge; marking = g.M.Model.marking }) l.self.obligations.now.inside in
-    let f : Property = property_in l.self.obligations.now.inside in
-    Visited m f (set_in l.self.obligations.now.inside) l.self.x l.j l.stands l.words
+    let m : Kripke = model_in (record { states = g.M.Graph.states; edge = g.M.Graph.edge; marking = g.M.Model.marking }) l.self.obligations.inside in
+    let f : Property = property_in l.self.obligations.inside in
+    Visited m f (set_in l.self.obligations.inside) l.self.x l.j l.stands l.words
     × (l.at ≤ l.stands.at)
     × (l.stands.at ≤ l.at + l.j * vertices m f)
     × (drop l.stands.at l.words ≡ drop l.stands.at l.initial.words)

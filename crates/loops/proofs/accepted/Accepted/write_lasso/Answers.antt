@@ -6,8 +6,8 @@ use Rattle.loops.proofs.accepted.Accepted.write_lasso.Goals as goal
 
 pub returns : goal.returns
 returns g c =
-    let m : Kripke = model_in (record { states = g.M.Graph.states; edge = g.M.Graph.edge; marking = g.M.Model.marking }) c.args.self.now.obligations.now.inside in
-    let f = property_in c.args.self.now.obligations.now.inside in
+    let m : Kripke = model_in (record { states = g.M.Graph.states; edge = g.M.Graph.edge; marking = g.M.Model.marking }) c.args.self.now.obligations.inside in
+    let f = property_in c.args.self.now.obligations.inside in
     let stem = c.write_stem-stem.ensures in
     let turns = c.build_loop-turns.ensures in
     record {

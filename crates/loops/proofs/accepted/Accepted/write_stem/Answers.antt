@@ -10,8 +10,8 @@ use Rattle.loops.proofs.accepted.Accepted.write_stem.Goals as goal
 
 pub route-count-requires : goal.route-count-requires
 route-count-requires g c =
-    let m : Kripke = model_in (record { states = g.M.Graph.states; edge = g.M.Graph.edge; marking = g.M.Model.marking }) c.args.self.now.obligations.now.inside in
-    let f = property_in c.args.self.now.obligations.now.inside in
+    let m : Kripke = model_in (record { states = g.M.Graph.states; edge = g.M.Graph.edge; marking = g.M.Model.marking }) c.args.self.now.obligations.inside in
+    let f = property_in c.args.self.now.obligations.inside in
     record {
       ends = (c.requires.first.vertex, c.requires.setting.vertex);
       finder = one_layer (mask_width f) (vertices m f) c.args.finder.now c.requires.finder;
@@ -21,8 +21,8 @@ route-count-requires g c =
 
 pub copy_states-requires : goal.copy_states-requires
 copy_states-requires g c =
-    let m : Kripke = model_in (record { states = g.M.Graph.states; edge = g.M.Graph.edge; marking = g.M.Model.marking }) c.args.self.now.obligations.now.inside in
-    let n : ℕ = vertices m (property_in c.args.self.now.obligations.now.inside) in
+    let m : Kripke = model_in (record { states = g.M.Graph.states; edge = g.M.Graph.edge; marking = g.M.Model.marking }) c.args.self.now.obligations.inside in
+    let n : ℕ = vertices m (property_in c.args.self.now.obligations.inside) in
     let size : ℕ = c.states-size.result in
     let count : ℕ = c.route-count.result in
     let routed = c.route-count.ensures.routed in
@@ -34,8 +34,8 @@ copy_states-requires g c =
 
 pub returns : goal.returns
 returns g c =
-    let m : Kripke = model_in (record { states = g.M.Graph.states; edge = g.M.Graph.edge; marking = g.M.Model.marking }) c.args.self.now.obligations.now.inside in
-    let f = property_in c.args.self.now.obligations.now.inside in
+    let m : Kripke = model_in (record { states = g.M.Graph.states; edge = g.M.Graph.edge; marking = g.M.Model.marking }) c.args.self.now.obligations.inside in
+    let f = property_in c.args.self.now.obligations.inside in
     let n : ℕ = vertices m f in
     let size : ℕ = c.states-size.result in
     let count : ℕ = c.route-count.result in

@@ -1,5 +1,5 @@
 use Rattle.std.proofs.Common.{◌&&◌, slice_index, rules}
-use Rattle.language.specs.Masks.{bit}
+use Rattle.masks.specs.Masks.{bit}
 use Rattle.properties.specs.Views.{connective_of}
 use Rattle.product.proofs.Searching.{any_range}
 use Rattle.obligations.specs.Layers.{arrives}

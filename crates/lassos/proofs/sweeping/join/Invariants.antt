@@ -1,6 +1,0 @@
-use Rattle.std.proofs.Common.{◌≡◌}
-use Rattle.lassos.specs.Sweeps.{joined}
-use Rattle.lassos.proofs.sweeping.join.Given as goal
-
-abbrev pub invariant-loop-q : goal.invariant-loop-q
-invariant-loop-q l = l.states ≡ joined l.row l.operands l.here l.there l.was l.q

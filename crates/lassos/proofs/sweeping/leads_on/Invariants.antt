@@ -1,7 +1,0 @@
-use Rattle.std.proofs.Common.{◌≡◌, false}
-use Rattle.logic.specs.Product.{some_below}
-use Rattle.lassos.specs.Sweeps.{letter_leads}
-use Rattle.lassos.proofs.sweeping.leads_on.Given as goal
-
-abbrev pub invariant-loop-a : goal.invariant-loop-a
-invariant-loop-a l = some_below l.a (letter_leads l.row l.operands l.here l.there l.q) ≡ false
