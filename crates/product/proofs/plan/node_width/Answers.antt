@@ -1,8 +1,7 @@
-use Rattle.std.proofs.Common.{◌≡◌, ◌<◌, ◌≤◌, sym, refl, ap, arith}
-use Rattle.frames.specs.Frames.{Node}
+use Rattle.std.proofs.Common.{◌<◌, ◌≤◌, sym, ap, arith}
 use Rattle.language.specs.Properties.{node_width}
 use Rattle.properties.specs.Meaning.{meaning}
-use Rattle.product.proofs.Nodes.{connective_used, node_is, other_at, width_is}
+use Rattle.product.proofs.Nodes.{connective_used, node_is, width_is}
 use Rattle.product.proofs.plan.node_width.Goals as goal
 
 pub bounds-property-connective : goal.bounds-property-connective
@@ -21,12 +20,3 @@ pub returns-in-Apply : goal.returns-in-Apply
 returns-in-Apply c =
     let p = c.args.property.now in
     record { is = sym (width_is p c.args.k c.requires _ _ _ c.in-Apply.is); small = p.rows.few_states c.in-Apply.connective }
-
-pub returns-in_default : goal.returns-in_default
-returns-in_default c =
-    let p = c.args.property.now in
-    record {
-      is = other_at p c.args.k c.requires c.in_default.not-Apply (λ (x : Node). 0 ≡ node_width (meaning p).connectives x)
-          refl (λ _. refl) (λ _. refl) (λ i e. absurd (c.in_default.not-Next i e)) (λ _ _. refl) (λ _ _. refl);
-      small = omega arith;
-    }

@@ -1,9 +1,8 @@
-use Rattle.std.proofs.Common.{◌≡◌, sym, refl, ap, ◌∙◌}
-use Rattle.frames.specs.Frames.{Node}
+use Rattle.std.proofs.Common.{sym, ap, ◌∙◌}
 use Rattle.language.specs.Properties.{Connective}
 use Rattle.properties.specs.Meaning.{meaning}
 use Rattle.product.specs.Owners.{finals_of}
-use Rattle.product.proofs.Nodes.{connective_is, node_is, other_at}
+use Rattle.product.proofs.Nodes.{connective_is, node_is}
 use Rattle.product.proofs.Vertex.{connective_low}
 use Rattle.product.proofs.plan.Plan.finals.Goals as goal
 
@@ -14,8 +13,3 @@ pub returns-in-Apply : goal.returns-in-Apply
 returns-in-Apply c =
     let p = c.args.self.now.property in
     sym (ap (finals_of (meaning p)) (node_is p c.args.k c.requires _ c.in-Apply.is) ∙ ap (λ (x : Connective). x.finals) (connective_is p c.args.k c.requires _ _ _ c.in-Apply.is))
-
-pub returns-in_default : goal.returns-in_default
-returns-in_default c =
-    let p = c.args.self.now.property in
-    other_at p c.args.k c.requires c.in_default.not-Apply (λ (x : Node). 0 ≡ finals_of (meaning p) x) refl (λ _. refl) (λ _. refl) (λ _ _. refl) (λ _ _. refl) (λ _ _. refl)
