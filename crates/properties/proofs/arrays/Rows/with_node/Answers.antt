@@ -3,10 +3,10 @@ use Rattle.language.specs.Properties.{node_width, width}
 use Rattle.std.proofs.lemmas.List.{length-set}
 use Rattle.properties.specs.Views.{connectives_of, node_of, nodes_of}
 use Rattle.properties.proofs.Growing.{rows_push, width_push}
-use Rattle.properties.proofs.rows.Rows.with_node.Goals as goal
+use Rattle.properties.proofs.arrays.Rows.with_node.Goals as goal
 
-pub invariant_of-result : goal.invariant_of-result
-invariant_of-result c =
+pub invariant_of-rows : goal.invariant_of-rows
+invariant_of-rows c =
     let s = c.args.self.now in
     let cs = connectives_of s.connectives s.used in
     let ns = nodes_of s.nodes s.count in
@@ -17,8 +17,6 @@ invariant_of-result c =
       many = length-set s.nodes s.count c.args.row ∙ s.many;
       few_connectives = s.few_connectives;
       few_nodes = omega (arith, c.requires.room);
-      few_states = s.few_states;
-      few_letters = s.few_letters;
       wide = c.requires.wide.0 ∙ ap (λ w. w + node_width cs (node_of c.args.row)) s.wide ∙ sym grown;
       narrow = c.requires.wide.1;
     }
