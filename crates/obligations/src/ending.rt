@@ -14,7 +14,7 @@ use properties::{Connective, Node};
 
 // Whether letter a is true and leads from state q to r.
 fn leads_by(row: &Connective, operands: &[u8; 4], truths: u32, q: u8, r: u8, a: u8) -> bool
-    requires sizes { (row.now.states ≤ 8) × ((row.now.letters ≤ 4) × (Below operands.now row.now.letters 32)) }
+    requires low { Below operands.now row.now.letters 32 }
     requires fits { (q < row.now.states) × ((r < row.now.states) × (a < row.now.letters)) }
     ensures { result ≡ bit truths (slice_index operands.now a) && (connective_of row.now).may q a r }
 {
@@ -24,7 +24,7 @@ fn leads_by(row: &Connective, operands: &[u8; 4], truths: u32, q: u8, r: u8, a: 
 
 // Whether a true letter leads from state q to r.
 fn arrives(row: &Connective, operands: &[u8; 4], truths: u32, q: u8, r: u8) -> bool
-    requires sizes { (row.now.states ≤ 8) × ((row.now.letters ≤ 4) × (Below operands.now row.now.letters 32)) }
+    requires low { Below operands.now row.now.letters 32 }
     requires fits { (q < row.now.states) × (r < row.now.states) }
     ensures { result ≡ arrives (connective_of row.now) (λ a. bit truths (slice_index operands.now a)) q r }
 {
@@ -38,7 +38,7 @@ fn arrives(row: &Connective, operands: &[u8; 4], truths: u32, q: u8, r: u8) -> b
 
 // Whether r is final and a true letter leads there from state q.
 fn ends_at(row: &Connective, operands: &[u8; 4], truths: u32, q: u8, r: u8) -> bool
-    requires sizes { (row.now.states ≤ 8) × ((row.now.letters ≤ 4) × (Below operands.now row.now.letters 32)) }
+    requires low { Below operands.now row.now.letters 32 }
     requires fits { (q < row.now.states) × (r < row.now.states) }
     ensures { result ≡ bit row.now.finals r && arrives (connective_of row.now) (λ a. bit truths (slice_index operands.now a)) q r }
 {
@@ -47,7 +47,7 @@ fn ends_at(row: &Connective, operands: &[u8; 4], truths: u32, q: u8, r: u8) -> b
 
 // Whether a true letter leads from state q to a final state.
 fn finishes(row: &Connective, operands: &[u8; 4], truths: u32, q: u8) -> bool
-    requires sizes { (row.now.states ≤ 8) × ((row.now.letters ≤ 4) × (Below operands.now row.now.letters 32)) }
+    requires low { Below operands.now row.now.letters 32 }
     requires fits { q < row.now.states }
     ensures { result ≡ finishes (connective_of row.now) (λ a. bit truths (slice_index operands.now a)) q }
 {
