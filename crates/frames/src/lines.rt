@@ -58,6 +58,7 @@ fn byte_of(high: u8, low: u8) -> u8
 }
 
 // The first bytes that a line's digits spell: all of them where they are at most six, and else seven, one more than any frame has.
+// A buffer with its length: a library has no heap, and the value is copied.
 #[derive(Clone, Copy, Debug)]
 pub struct Bytes {
     head: [u8; 7],
