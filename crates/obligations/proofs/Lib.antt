@@ -9,4 +9,3 @@ pub mod Pending
 pub mod Coming
 pub mod Owning
 pub mod Tested
-pub mod Unapplied

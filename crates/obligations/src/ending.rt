@@ -18,8 +18,6 @@ struct Letters {
     row: Connective,
     operands: [u8; 4],
     truths: u32,
-    ghost narrow: { row.states ≤ 8 },
-    ghost short: { row.letters ≤ 4 },
     ghost low: { Below operands row.letters 32 },
 }
 

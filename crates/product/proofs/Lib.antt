@@ -10,3 +10,4 @@ pub mod Numbers
 pub mod Edges
 pub mod Going
 pub mod Searching
+pub mod Unapplied

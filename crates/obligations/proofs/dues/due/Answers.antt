@@ -3,7 +3,7 @@ use Rattle.frames.specs.Frames.{Node}
 use Rattle.properties.specs.Meaning.{meaning}
 use Rattle.product.proofs.Nodes.{narrow_at, node_is}
 use Rattle.tableau.specs.Rounds.{pending_node}
-use Rattle.obligations.proofs.Unapplied.{unapplied_at}
+use Rattle.product.proofs.Unapplied.{unapplied_at}
 use Rattle.obligations.proofs.Pending.{due_apply}
 use Rattle.obligations.proofs.dues.due.Goals as goal
 
@@ -22,4 +22,4 @@ returns-in_default c m u el em =
     let p = c.args.plan.now.property in
     unapplied_at p c.args.k c.requires.node
     (λ (x : Node). false ≡ pending_node m (meaning p) u c.args.k x c.args.q)
-    refl (λ _. refl) (λ _. refl) (λ _. refl) (λ _ _. refl) (λ _ _. refl) c.in_default.not-Apply
+    refl (λ _. refl) (λ _. refl) (λ _ _. refl) (λ _ _. refl) (λ _ _. refl) c.in_default.not-Apply
