@@ -18,8 +18,8 @@ fn run(rt: &HostRuntime) -> anyhow::Result<()> {
     let mut area = vec![in heap; 0; ROOM]?;
     match normalise(&text, &mut area) {
         Ok(length) => {
-            if length <= area.len() {
-                rt.stdout().write_all(&area[0..length])?;
+            if let Some(shown) = area.get(..length) {
+                rt.stdout().write_all(shown)?;
             }
             Ok(())
         }

@@ -31,7 +31,7 @@ fn push_piece(text: &mut Vec<u8>, piece: &str) -> anyhow::Result<()> {
 
 // The bytes in the notation of the cases.
 fn noted(bytes: &mut [u8]) {
-    for b in bytes.iter_mut() {
+    for b in bytes {
         if *b == b'\n' {
             *b = b'/';
         }
@@ -47,11 +47,10 @@ fn run_case(rt: &HostRuntime, case: &str) -> anyhow::Result<()> {
     let mut area = vec![in heap; 0; ROOM]?;
     match normalise(&text, &mut area) {
         Ok(length) => {
-            let area = area.as_mut_slice();
-            noted(area);
-            if length <= area.len() {
+            if let Some(shown) = area.as_mut_slice().get_mut(..length) {
+                noted(shown);
                 print!(rt; "{case} -> ")?;
-                rt.stdout().write_all(&area[0..length])?;
+                rt.stdout().write_all(shown)?;
                 println!(rt; "")?;
             }
             Ok(())

@@ -1,5 +1,5 @@
 //! What a check is refused for, before any area is written.
-ghost use Rattle.models.specs.Markings.{structure};
+ghost use Rattle.models.specs.Markings.{structure_of};
 ghost use Rattle.properties.specs.Meaning.{meaning};
 ghost use Rattle.decision.specs.States.{Granted};
 
@@ -15,7 +15,7 @@ pub(crate) fn grant<M: Model>(
     scratch: usize,
     trace: usize,
 ) -> Result<usize, Refusal>
-    ensures { Granted (structure (M.Graph.states model.now) (M.Graph.edge model.now) (M.Model.marking model.now)) (meaning plan.now.property) scratch trace result }
+    ensures { Granted (structure_of M.Model model.now) (meaning plan.now.property) scratch trace result }
 {
     let width = plan.property.rows.width as usize;
     let size = model.states() as usize * plan.size() as usize;

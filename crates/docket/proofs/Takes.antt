@@ -1,6 +1,6 @@
 -- What each call ensures is its part of what a turn does, so every turn goes by law.
-use Rattle.std.proofs.Common.{◌≡◌, ℕ, Bool, true, false, cond, ltb, List, ◌++◌, length, take, drop, Some, None, Ok, Err, Option, Result, sym, refl, ap, ◌∙◌, subst, ap₂, arith}
-use lib.Seq.{take-append_seam}
+use Rattle.std.proofs.Common.{◌≡◌, ℕ, Bool, true, false, cond, ltb, List, length, drop, Some, None, Ok, Err, Option, Result, option_map, sym, refl, ap, ◌∙◌, subst}
+use Rattle.std.proofs.Math.Seq.{take-append_seam}
 use Rattle.frames.specs.declared.faults.Refusal.{Refusal}
 use Rattle.frames.specs.declared.faults.Refusal.TheVariants.{Number}
 use Rattle.kripke.specs.Models.{Kripke}
@@ -10,27 +10,25 @@ use Rattle.decision.specs.declared.verdict.Verdict.{Verdict}
 use Rattle.decision.specs.declared.verdict.Verdict.TheVariants.{Holds, Broken}
 use Rattle.decision.specs.Deciding.{refusal, Right as Verdict-right}
 use Rattle.ledger.specs.Turns.{Turn, refusal_in}
+use Rattle.ledger.specs.Turns.Turn.{check, show}
 use Rattle.ledger.specs.Law.{Shows}
 use Rattle.ledger.specs.Table.{first, found, or_vacant}
 use Rattle.ledger.specs.Runs.{View, Untouched, Right, Sound, WasChecked, WasShown, Takes}
 use Rattle.ledger.proofs.Lawful.{by_law}
 use Rattle.docket.specs.Calls.{CheckedAs, Shown, ShownIn}
-use Rattle.docket.specs.Answers.{WentByLaw, finding, findings, front, made}
+use Rattle.docket.specs.Answers.{WentByLaw, finding, findings, front}
 
 pub same : (d : View) → Untouched d d
 same d = record { rows = λ k. refl; tally = refl }
 
 -- a turn with the answer of its kind goes by law
-pub went : {A : Type 0} (d e : View) (turn : A → Turn) (o : Option A) (r : A) → o ≡ Some r → Takes d (turn r) e → WentByLaw d (made turn o) e
-went d e turn o r q w = subst (λ x. WentByLaw d (made turn x) e) (sym q) (by_law d (turn r) e w)
+pub went : {A : Type 0} (d e : View) (turn : A → Turn) (o : Option A) (r : A) → o ≡ Some r → Takes d (turn r) e → WentByLaw d (option_map turn o) e
+went d e turn o r q w = subst (λ x. WentByLaw d (option_map turn x) e) (sym q) (by_law d (turn r) e w)
 
 -- Shows
 
-text_at : (n : ℕ) (text area area' : List ℕ) → n ≡ length text → area' ≡ text ++ drop (length text) area → take n area' ≡ text
-text_at n text area area' e f = ap₂ (λ (k : ℕ) (xs : List ℕ). take k xs) e f ∙ take-append_seam text (drop (length text) area)
-
 shown_text : (r : Result ℕ Refusal) (o : Option Property) (area area' : List ℕ) → ShownIn r o area area' → Shows (front r area') o
-shown_text (Ok n) (Some f) area area' w = text_at n (canonical f) area area' w.0 w.1
+shown_text (Ok n) (Some f) area area' w = cc (take-append_seam (canonical f) (drop (length (canonical f)) area))
 shown_text (Ok n) None area area' w = w
 shown_text (Err why) o area area' w = tt
 
@@ -38,20 +36,23 @@ front_refusal : (r : Result ℕ Refusal) (bytes : List ℕ) → refusal_in (fron
 front_refusal (Ok n) bytes = refl
 front_refusal (Err why) bytes = refl
 
-pub show_takes : (d : View) (number : ℕ) (area area' : List ℕ) (r : Result ℕ Refusal) → Shown d number area area' r → WasShown d number (length area) (front r area') d
+show_takes : (d : View) (number : ℕ) (area area' : List ℕ) (r : Result ℕ Refusal) → Shown d number area area' r → WasShown d number (length area) (front r area') d
 show_takes d number area area' r w = record {
   refusal = front_refusal r area' ∙ w.refusal;
   text = shown_text r (d.rows number) area area' w.left;
   same = same d;
 }
 
+pub show_went : (d : View) (number : ℕ) (area area' : List ℕ) (o : Option (Result ℕ Refusal)) (r : Result ℕ Refusal) → o ≡ Some r → Shown d number area area' r → WentByLaw d (option_map (λ a. show number (length area) (front a area')) o) d
+show_went d number area area' o r q w = went d d (λ a. show number (length area) (front a area')) o r q (show_takes d number area area' r w)
+
 -- Checks
 
 -- what is found under a number is under it
 found_by : (b : Bool) (o : Option Property) (f : Property) → cond b (Err Number) (or_vacant o) ≡ Ok f → o ≡ Some f
-found_by true o f e = let z : ◌≡◌ {A = ℕ} 0 1 = cc in absurd (omega arith)
+found_by true o f e = cc
 found_by false (Some g) f e = cc
-found_by false None f e = let z : ◌≡◌ {A = ℕ} 0 1 = cc in absurd (omega arith)
+found_by false None f e = cc
 
 right_of : (m : Kripke) (f : Property) (trace trace' : List ℕ) (v : Verdict) → Verdict-right m f trace trace' v → Right m f (finding v trace')
 right_of m f trace trace' Holds w = w.0
@@ -79,5 +80,8 @@ module _ (d : View) (m : Kripke) (number : ℕ) (scratch scratch' trace trace' :
     same = same d;
   }
 
-  pub check_takes : (r : Result Verdict Refusal) → CheckedAs m (found d.rows number) scratch scratch' trace trace' r → WasChecked d m number (length scratch) (length trace) (findings r trace') d
+  check_takes : (r : Result Verdict Refusal) → CheckedAs m (found d.rows number) scratch scratch' trace trace' r → WasChecked d m number (length scratch) (length trace) (findings r trace') d
   check_takes r w = check_found (found d.rows number) r refl w
+
+  pub check_went : (o : Option (Result Verdict Refusal)) (r : Result Verdict Refusal) → o ≡ Some r → CheckedAs m (found d.rows number) scratch scratch' trace trace' r → WentByLaw d (option_map (λ a. check m number (length scratch) (length trace) (findings a trace')) o) d
+  check_went o r q w = went d d (λ a. check m number (length scratch) (length trace) (findings a trace')) o r q (check_takes r w)

@@ -1,10 +1,11 @@
 //! What the law gives those who make turns: over two models of one meaning, of any make, what holds over one is not broken over the other.
 ghost use Rattle.kripke.specs.Models.{OneMeaning};
-ghost use Rattle.models.specs.Markings.{structure};
+ghost use Rattle.models.specs.Markings.{structure_of};
 ghost use Rattle.docket.specs.Answers.{Agree};
 
 use crate::docket::Docket;
 use crate::requests::{Answer, Request};
+use frames::Refusal;
 use models::Model;
 
 // Enters a text in a new docket, and checks what it spells over two models of one meaning.
@@ -15,8 +16,8 @@ pub fn check_twice<M: Model, N: Model>(
     area: &mut [u8],
     scratch: &mut [u32],
     trace: &mut [u32],
-) -> (Answer, Answer)
-    requires { OneMeaning (structure (M.Graph.states one.now) (M.Graph.edge one.now) (M.Model.marking one.now)) (structure (N.Graph.states other.now) (N.Graph.edge other.now) (N.Model.marking other.now)) }
+) -> (Result<Answer, Refusal>, Result<Answer, Refusal>)
+    requires { OneMeaning (structure_of M.Model one.now) (structure_of N.Model other.now) }
     ensures { Agree result.0 result.1 }
 {
     let mut docket = Docket::new();

@@ -10,6 +10,7 @@ pub mod judging;
 
 // A property or nothing under each of the numbers 0 to 7, and how many turns changed that. Every property is within the limits, with operands
 // below their nodes: no call tests that again.
+// Contracts write `view` and there is no `impl Model`: a `Copy` type's value would have to give its fields back, and the view forgets unused rows.
 #[derive(Clone, Copy)]
 pub struct Docket {
     rows: [Option<Property>; 8],

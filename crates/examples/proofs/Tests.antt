@@ -1,5 +1,6 @@
 -- Small numbers by cases, and what the tests of tables and connectives say.
-use Rattle.std.proofs.Common.{◌≡◌, ℕ, zero, suc, ◌<◌, ◌&&◌, T, eqb, ◌⊎◌, List, ◌∷◌, subst, inl, inr, arith, eqb→eq}
+use Rattle.std.proofs.Common.{◌≡◌, ℕ, zero, suc, ◌<◌, ◌&&◌, T, eqb, ◌⊎◌, List, ◌∷◌, subst, arith, eqb→eq}
+use Rattle.std.proofs.Math.Logic.{⊎_map}
 use Rattle.language.specs.Properties.{Connective}
 use Rattle.language.specs.Reading.{moving}
 use Rattle.models.specs.Tables.{among}
@@ -17,19 +18,14 @@ zero_or_one P a b (suc (suc i)) h = absurd (omega arith)
 
 -- a transition of a connective is the latest one, or one that it had before
 pub moved : (p a r : ℕ) (c : Connective) (x y z : ℕ) → T ((moving p a r c).may x y z) → ((x ≡ p) × (y ≡ a) × (z ≡ r)) ⊎ T (c.may x y z)
-moved p a r c x y z t = go (or_T (eqb x p && (eqb y a && eqb z r)) (c.may x y z) t)
-  where
-    go : T (eqb x p && (eqb y a && eqb z r)) ⊎ T (c.may x y z) → ((x ≡ p) × (y ≡ a) × (z ≡ r)) ⊎ T (c.may x y z)
-    go (inl s) =
-        let u = and_T (eqb x p) (eqb y a && eqb z r) s in
-        let v = and_T (eqb y a) (eqb z r) u.1 in
-        inl (eqb→eq x p u.0, eqb→eq y a v.0, eqb→eq z r v.1)
-    go (inr s) = inr s
+moved p a r c x y z t = ⊎_map
+    (λ s.
+    let u = and_T (eqb x p) (eqb y a && eqb z r) s in
+    let v = and_T (eqb y a) (eqb z r) u.1 in
+    (eqb→eq x p u.0, eqb→eq y a v.0, eqb→eq z r v.1))
+    (λ s. s)
+    (or_T (eqb x p && (eqb y a && eqb z r)) (c.may x y z) t)
 
 -- a word that is among words is the first, or among the others
 pub among_either : (w word : ℕ) (words : List ℕ) → T (among w (word ∷ words)) → (word ≡ w) ⊎ T (among w words)
-among_either w word words t = go (or_T (eqb word w) (among w words) t)
-  where
-    go : T (eqb word w) ⊎ T (among w words) → (word ≡ w) ⊎ T (among w words)
-    go (inl s) = inl (eqb→eq word w s)
-    go (inr s) = inr s
+among_either w word words t = ⊎_map (eqb→eq word w) (λ s. s) (or_T (eqb word w) (among w words) t)

@@ -1,5 +1,5 @@
 -- Laws of frames: seven bytes are enough to tell one, and a line's fault comes first.
-use Rattle.std.proofs.Common.{◌≡◌, ℕ, ◌+◌, ◌-◌, ◌≤◌, true, false, cond, List, [], ◌∷◌, length, get_or, take, drop, Ok, Err, Result, sym, refl, ap, ◌∙◌, subst, ap₂, arith}
+use Rattle.std.proofs.Common.{◌≡◌, ℕ, ◌+◌, ◌-◌, ◌≤◌, true, false, cond, List, [], ◌∷◌, length, get_or, take, drop, Ok, Err, Result, sym, refl, ap, ◌∙◌, subst, arith}
 use Rattle.std.proofs.lemmas.List.{length-take, take_all, take_rest}
 use Rattle.frames.specs.declared.faults.LineFault.{LineFault}
 use Rattle.frames.specs.declared.faults.LineFault.TheVariants.{Digits, Unclosed}
@@ -42,7 +42,7 @@ fault_of_frame n text line fault e f = sym (after_line n (cut text).lines ∙ ap
 pub frame_with_size : (n : ℕ) (text line : List ℕ) (frame : Frame) → Ok line ≡ first_line n text → Ok frame ≡ frame_of_bytes n (spelt line) → Ok (frame, length line + 1) ≡ first_frame n text
 frame_with_size n text line frame e f = sym (after_line n (cut text).lines ∙ ap (carried n) (sym e) ∙ ap (sized (length line + 1)) (sym f))
 
-applied : (n : ℕ) (bs : List ℕ) → get_or bs 0 0 ≡ 37 → 3 ≤ length bs → length bs ≤ 6 → Ok (node (apply (get_or (drop 1 bs) 0 0) (drop 2 bs))) ≡ frame_of_bytes n bs
+applied : (n : ℕ) (bs : List ℕ) → get_or bs 0 0 ≡ 37 → 3 ≤ length bs → length bs ≤ 6 → Ok (node (apply (get_or bs 1 0) (drop 2 bs))) ≡ frame_of_bytes n bs
 applied n [] e low high = absurd (omega arith)
 applied n (k ∷ []) e low high = absurd (omega arith)
 applied n (k ∷ c ∷ []) e low high = absurd (omega arith)
@@ -53,7 +53,7 @@ applied n (k ∷ c ∷ f ∷ g ∷ h ∷ i ∷ []) e low high = subst (λ j. Ok 
 applied n (k ∷ c ∷ f ∷ g ∷ h ∷ i ∷ j ∷ more) e low high = absurd (omega arith)
 
 -- the operands of a connective are spelt by the digits from the fifth on
-pub apply_by_digits : (n : ℕ) (bs ds : List ℕ) → bs ≡ take 7 (spelt ds) → get_or bs 0 0 ≡ 37 → 3 ≤ length bs → length bs ≤ 6 → Ok (node (apply (get_or (take (length bs - 1) (drop 1 bs)) 0 0) (spelt (take (length ds - 4) (drop 4 ds))))) ≡ frame_of_bytes n bs
+pub apply_by_digits : (n : ℕ) (bs ds : List ℕ) → bs ≡ take 7 (spelt ds) → get_or bs 0 0 ≡ 37 → 3 ≤ length bs → length bs ≤ 6 → Ok (node (apply (get_or bs 1 0) (spelt (take (length ds - 4) (drop 4 ds))))) ≡ frame_of_bytes n bs
 apply_by_digits n bs ds e k low high =
     let l = ap length e ∙ length-take 7 (spelt ds) in
     let m = length_spelt ds in
@@ -61,8 +61,7 @@ apply_by_digits n bs ds e k low high =
     let long : 4 ≤ length ds = omega arith in
     let whole : spelt ds ≡ bs = sym (e ∙ take_all 7 (spelt ds) short) in
     let operands : spelt (take (length ds - 4) (drop 4 ds)) ≡ drop 2 bs = ap spelt (take_rest ds 4) ∙ spelt_drop ds long ∙ ap (drop 2) whole in
-    let which : get_or (take (length bs - 1) (drop 1 bs)) 0 0 ≡ get_or (drop 1 bs) 0 0 = ap (λ xs. get_or xs 0 0) (take_rest bs 1) in
-    ap₂ (λ (c : ℕ) (is : List ℕ). Ok (node (apply c is))) which operands ∙ applied n bs k low high
+    ap (λ (is : List ℕ). Ok (node (apply (get_or bs 1 0) is))) operands ∙ applied n bs k low high
 
 -- The first line of a text that is a frame: the line, the other lines, and what is left of the text after it.
 pub record Framed (n : ℕ) (text : List ℕ) (frame : Frame) (size : ℕ) : Type 0 where

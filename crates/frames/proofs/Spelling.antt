@@ -1,9 +1,9 @@
 -- Laws of the bytes that digits spell.
-use Rattle.std.proofs.Common.{◌≡◌, ℕ, zero, suc, ◌+◌, ◌*◌, ◌/◌, ◌<◌, ◌≤◌, min, true, false, ◌&&◌, List, [], ◌∷◌, ◌++◌, length, get_or, take, drop, set, sym, refl, ap, ◌∙◌, ap₂, ⊎_elim, arith}
-use Rattle.std.proofs.lemmas.List.{at_drop_more, at_drop_all, take_more, take_more_set, take_all}
-use Rattle.std.proofs.lemmas.Bool.{cases_lt, and_left}
-use Rattle.frames.specs.Digits.{is_digit, value}
-use Rattle.frames.specs.Lines.{all_digits, spelt}
+use Rattle.std.proofs.Common.{◌≡◌, ℕ, zero, suc, ◌+◌, ◌*◌, ◌/◌, ◌<◌, ◌≤◌, min, List, [], ◌∷◌, ◌++◌, length, get_or, take, drop, set, sym, refl, ap, ◌∙◌, ap₂, ⊎_elim, arith}
+use Rattle.std.proofs.lemmas.List.{take_more, take_more_set, take_all}
+use Rattle.std.proofs.lemmas.Bool.{cases_lt}
+use Rattle.frames.specs.Digits.{value}
+use Rattle.frames.specs.Lines.{spelt}
 
 -- two digits a byte
 pub length_spelt : (ds : List ℕ) → length (spelt ds) ≡ length ds / 2
@@ -43,13 +43,3 @@ head_whole head xs k n m long e same = ⊎_elim
     (λ lt. let f : k ≡ m = omega arith in same ∙ take_all k xs (omega arith) ∙ sym (take_all n xs (omega arith)))
     (λ ge. let f : k ≡ n = omega arith in same ∙ ap (λ j. take j xs) f)
     (cases_lt m n)
-
--- a loop over the bytes of a line that are digits so far
-pub digits_stop : (xs : List ℕ) (i : ℕ) → i < length xs → is_digit (get_or xs i 0) ≡ false → all_digits (drop i xs) ≡ all_digits xs → false ≡ all_digits xs
-digits_stop xs i lt d inv = sym (sym inv ∙ at_drop_more all_digits xs i 0 lt ∙ and_left _ _ d)
-
-pub digits_more : (xs : List ℕ) (i : ℕ) → i < length xs → is_digit (get_or xs i 0) ≡ true → all_digits (drop i xs) ≡ all_digits xs → all_digits (drop (i + 1) xs) ≡ all_digits xs
-digits_more xs i lt d inv = sym (ap (λ b. b && all_digits (drop (i + 1) xs)) d) ∙ sym (at_drop_more all_digits xs i 0 lt) ∙ inv
-
-pub digits_all : (xs : List ℕ) (i : ℕ) → length xs ≤ i → all_digits (drop i xs) ≡ all_digits xs → true ≡ all_digits xs
-digits_all xs i le inv = sym (at_drop_all all_digits xs i le) ∙ inv

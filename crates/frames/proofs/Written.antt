@@ -1,13 +1,15 @@
 -- Laws of what is written into an area, and of the digits of a number.
-use Rattle.std.proofs.Common.{◌≡◌, ℕ, zero, suc, ◌+◌, ◌-◌, ◌*◌, ◌/◌, ◌%◌, ◌^◌, ◌<◌, ◌≤◌, Bool, cond, List, [], ◌∷◌, ◌++◌, length, drop, set, Ok, Err, Result, sym, refl, ap, ◌∙◌, ap₂, add-one, arith, pow-add}
+use Rattle.std.proofs.Common.{◌≡◌, ℕ, zero, suc, ◌+◌, ◌-◌, ◌*◌, ◌/◌, ◌%◌, ◌^◌, ◌<◌, ◌≤◌, Bool, cond, List, [], ◌∷◌, ◌++◌, length, drop, set, Ok, Err, Result, sym, refl, ap, ◌∙◌, ap₂, subst, add-one, arith, pow-add}
 use native.Mathlib.Nat.{pow-succ'}
 use lib.Bits.{bit_and, and_mask}
-use Rattle.std.proofs.lemmas.List.{append_assoc, length_push, length-set}
+use Rattle.std.proofs.lemmas.List.{append_assoc, length-append, length_push, length-set}
 use Rattle.std.proofs.lemmas.Bool.{le-leb, lt-leb}
 use Rattle.frames.specs.Areas.{filled, told, written}
 use Rattle.frames.specs.declared.faults.Refusal.{Refusal}
 use Rattle.frames.specs.declared.faults.Refusal.TheVariants.{Room}
 use Rattle.frames.specs.Digits.{hexadecimal, digit_of}
+use Rattle.frames.specs.Writers.{Writes}
+use Rattle.frames.specs.declared.writers.Writer.{Writer}
 
 pub powers_of_16 : (k : ℕ) → 2 ^ (4 * k) ≡ 16 ^ k
 powers_of_16 zero = refl
@@ -73,3 +75,31 @@ told_short text area l = sym (ap (λ (b : Bool). cond {A = Result ℕ Refusal} b
 
 pub filled_short : (text area : List ℕ) → length area < length text → area ≡ filled text area
 filled_short text area l = sym (ap (λ (b : Bool). cond b (text ++ drop (length text) area) area) (lt-leb (length text) (length area) l))
+
+-- the last digits of a number are as many as asked for
+pub length_hexadecimal : (n v : ℕ) → length (hexadecimal n v) ≡ n
+length_hexadecimal zero v = refl
+length_hexadecimal (suc n) v = ap (λ k. suc k) (length_hexadecimal n v)
+
+-- one writing after the other, by the same writer
+pub writes_both : {a b c : Writer} {xs ys : List ℕ} → Writes a b xs → Writes b c ys → Writes a c (xs ++ ys)
+writes_both {a} {b} {c} {xs} {ys} f g = record {
+  same_area = g.same_area ∙ f.same_area;
+  area = g.area ∙ ap₂ (λ (r : List ℕ) (p : ℕ). written r p ys) f.area f.place ∙ written_append a.area.now a.at xs ys;
+  place = simp length-append (omega (arith, f.place, g.place));
+}
+
+-- the same bytes under another name
+pub writes_as : {a b : Writer} {xs ys : List ℕ} → xs ≡ ys → Writes a b xs → Writes a b ys
+writes_as {a} {b} e f = subst (Writes a b) e f
+
+-- nothing was written yet
+pub writes_none : (a : Writer) → Writes a a []
+writes_none a = record { same_area = refl; area = refl; place = omega arith }
+
+-- a text that fits, written from the start: what the call tells, and what it leaves in the area
+pub writes_text : {a b : Writer} (text : List ℕ) → Writes a b text → a.at ≡ 0 → length text ≤ length a.area.now → (Ok b.at ≡ told text a.area.now) × (b.area.now ≡ filled text a.area.now)
+writes_text {a} {b} text f e fits = (
+  told_fits text a.area.now b.at (omega (arith, f.place)) fits,
+  f.area ∙ ap (λ k. written a.area.now k text) e ∙ filled_fits text a.area.now fits,
+)

@@ -4,3 +4,4 @@ pub mod Frames
 pub mod Borrowed
 pub mod Refusals
 pub mod Areas
+pub mod Writers

@@ -1,5 +1,6 @@
 -- Lines of a text, and the bytes that a line spells.
-use Rattle.std.specs.Prelude.{ℕ, ◌+◌, ◌*◌, ◌%◌, Bool, true, cond, ◌&&◌, List, [], ◌∷◌, length, Ok, Err, Result, ◌==◌, nat_lt}
+use Rattle.std.specs.Prelude.{ℕ, ◌+◌, ◌*◌, ◌%◌, Bool, cond, ◌&&◌, List, [], ◌∷◌, length, Ok, Err, Result, ◌==◌, nat_lt}
+use Rattle.std.specs.List.{list_all}
 use Rattle.frames.specs.declared.faults.LineFault.{LineFault}
 use Rattle.frames.specs.declared.faults.LineFault.TheVariants.{Digits, Unclosed}
 use Rattle.frames.specs.Digits.{is_digit, value}
@@ -24,8 +25,7 @@ cut (b ∷ bytes) = before b (cut bytes)
 
 -- every byte is a digit
 abbrev pub all_digits : List ℕ → Bool
-all_digits [] = true
-all_digits (b ∷ bytes) = is_digit b && all_digits bytes
+all_digits bytes = list_all is_digit bytes
 
 -- a line is well formed: nothing but digits, an even number of them, at least two
 abbrev pub proper : List ℕ → Bool

@@ -4,7 +4,7 @@ ghost use Rattle.frames.specs.declared.faults.FrameFault.{FrameFault};
 ghost use Rattle.frames.specs.declared.faults.Refusal.{Refusal};
 
 // A line that is not a line's form.
-#[derive(Clone, Copy)]
+#[derive(Clone, Copy, Debug, PartialEq, Eq)]
 pub enum LineFault {
     // other bytes than digits, an odd number of them, or none
     Digits { line: u32 },
@@ -13,7 +13,7 @@ pub enum LineFault {
 }
 
 // A line that is no frame of the call's kinds.
-#[derive(Clone, Copy)]
+#[derive(Clone, Copy, Debug, PartialEq, Eq)]
 pub enum FrameFault {
     Line(LineFault),
     // a kind that the call does not take
@@ -23,7 +23,7 @@ pub enum FrameFault {
 }
 
 // Why a call was refused.
-#[derive(Clone, Copy)]
+#[derive(Clone, Copy, Debug, PartialEq, Eq)]
 pub enum Refusal {
     Frame(FrameFault),
     // a line out of order, or a missing end

@@ -8,7 +8,7 @@ use crate::faults::FrameFault;
 use crate::lines::{Bytes, line_at};
 
 // A line of a property. An operand is the number of an earlier node.
-#[derive(Clone, Copy)]
+#[derive(Clone, Copy, Debug, PartialEq, Eq)]
 pub enum Frame<'a> {
     Connective {
         states: u8,
@@ -40,34 +40,27 @@ fn frame_by_kind<'a>(bytes: &[u8], digits: &'a [u8], number: u32) -> Result<Fram
     requires spelt { bytes.now ≡ take 7 (spelt digits.now) }
     ensures { framed result ≡ frame_of_bytes number bytes.now }
 {
-    match bytes {
-        [] => Err(FrameFault::Kind { line: number }),
-        [kind, fields @ ..] => match (*kind, fields) {
-            (0x10, [m, n, q, f]) => Ok(Frame::Connective {
-                states: *m,
-                letters: *n,
-                start: *q,
-                finals: *f,
-            }),
-            (0x11, [p, a, r]) => Ok(Frame::Transition {
-                from: *p,
-                letter: *a,
-                to: *r,
-            }),
-            (0x20, [p]) => Ok(Frame::Proposition(*p)),
-            (0x21, [i]) => Ok(Frame::Not(*i)),
-            (0x22, [i]) => Ok(Frame::Next(*i)),
-            (0x23, [i, j]) => Ok(Frame::And(*i, *j)),
-            (0x24, [i, j]) => Ok(Frame::Or(*i, *j)),
-            (0x25, [c, _, more @ ..]) if more.len() < 4 => Ok(Frame::Apply {
-                connective: *c,
-                operands: &digits[4..],
-            }),
-            (0x26, []) => Ok(Frame::True),
-            (0x2f, []) => Ok(Frame::End),
-            (0x10 | 0x11 | 0x20..=0x26 | 0x2f, _) => Err(FrameFault::Count { line: number }),
-            _ => Err(FrameFault::Kind { line: number }),
-        },
+    match *bytes {
+        [0x10, states, letters, start, finals] => Ok(Frame::Connective {
+            states,
+            letters,
+            start,
+            finals,
+        }),
+        [0x11, from, letter, to] => Ok(Frame::Transition { from, letter, to }),
+        [0x20, p] => Ok(Frame::Proposition(p)),
+        [0x21, i] => Ok(Frame::Not(i)),
+        [0x22, i] => Ok(Frame::Next(i)),
+        [0x23, i, j] => Ok(Frame::And(i, j)),
+        [0x24, i, j] => Ok(Frame::Or(i, j)),
+        [0x25, connective, _, ..] if bytes.len() < 7 => Ok(Frame::Apply {
+            connective,
+            operands: &digits[4..],
+        }),
+        [0x26] => Ok(Frame::True),
+        [0x2f] => Ok(Frame::End),
+        [0x10 | 0x11 | 0x20..=0x26 | 0x2f, ..] => Err(FrameFault::Count { line: number }),
+        _ => Err(FrameFault::Kind { line: number }),
     }
 }
 
@@ -77,13 +70,6 @@ pub fn frame_of<'a>(digits: &'a [u8], number: u32) -> Result<Frame<'a>, FrameFau
 {
     let bytes = Bytes::of(digits);
     frame_by_kind(bytes.as_slice(), digits, number)
-}
-
-// How many bytes a line has with the 0A that closes it.
-fn closed_length(digits: &[u8]) -> usize
-    ensures { result ≡ length digits.now + 1 }
-{
-    digits.len() + 1
 }
 
 // What the line says that begins at `at`, and how many bytes it has with the 0A that closes it.
@@ -96,5 +82,5 @@ pub fn frame_at<'a>(
 {
     let digits = line_at(text, at, number)?;
     let frame = frame_of(digits, number)?;
-    Ok((frame, closed_length(digits)))
+    Ok((frame, digits.len() + 1))
 }

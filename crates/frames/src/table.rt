@@ -1,10 +1,11 @@
 //! The table of refusals: each has a number and tells a line.
 ghost use Rattle.std.specs.Prelude.{◌≡◌, ◌+◌, ◌^◌, ◌<◌};
-ghost use Rattle.frames.specs.Areas.{filled, told, written};
+ghost use Rattle.frames.specs.Areas.{filled, told};
+ghost use Rattle.frames.specs.Writers.{Writes};
 ghost use Rattle.frames.specs.Refusals.{frame_fault_line, frame_fault_number, line, number, refusal_text};
 
-use crate::digits::{put, put_number};
 use crate::faults::{FrameFault, LineFault, Refusal};
+use crate::writers::Writer;
 
 impl FrameFault {
     fn row(&self) -> u8
@@ -12,8 +13,8 @@ impl FrameFault {
     {
         match *self {
             FrameFault::Line(_) => 1,
-            FrameFault::Kind { line: _ } => 2,
-            FrameFault::Count { line: _ } => 3,
+            FrameFault::Kind { .. } => 2,
+            FrameFault::Count { .. } => 3,
         }
     }
 
@@ -21,10 +22,9 @@ impl FrameFault {
         ensures { result ≡ frame_fault_line self.now }
     {
         match *self {
-            FrameFault::Line(LineFault::Digits { line }) => line,
-            FrameFault::Line(LineFault::Unclosed { line }) => line,
-            FrameFault::Kind { line } => line,
-            FrameFault::Count { line } => line,
+            FrameFault::Line(LineFault::Digits { line } | LineFault::Unclosed { line })
+            | FrameFault::Kind { line }
+            | FrameFault::Count { line } => line,
         }
     }
 }
@@ -36,12 +36,12 @@ impl Refusal {
     {
         match *self {
             Refusal::Frame(fault) => fault.row(),
-            Refusal::Order { line: _ } => 4,
-            Refusal::Value { line: _ } => 5,
-            Refusal::Store { line: _ } => 6,
+            Refusal::Order { .. } => 4,
+            Refusal::Value { .. } => 5,
+            Refusal::Store { .. } => 6,
             Refusal::Number => 7,
             Refusal::Vacant => 8,
-            Refusal::Limit { line: _ } => 9,
+            Refusal::Limit { .. } => 9,
             Refusal::Model => 10,
             Refusal::Scratch => 11,
             Refusal::Trace => 12,
@@ -55,10 +55,10 @@ impl Refusal {
     {
         match *self {
             Refusal::Frame(fault) => fault.place(),
-            Refusal::Order { line } => line,
-            Refusal::Value { line } => line,
-            Refusal::Store { line } => line,
-            Refusal::Limit { line } => line,
+            Refusal::Order { line }
+            | Refusal::Value { line }
+            | Refusal::Store { line }
+            | Refusal::Limit { line } => line,
             Refusal::Number
             | Refusal::Vacant
             | Refusal::Model
@@ -68,16 +68,15 @@ impl Refusal {
         }
     }
 
-    // Writes the refusal as a line of text from the place `at` on, as far as the area goes, and tells the next place.
-    pub fn put(&self, area: &mut [u8], at: usize) -> usize
-        requires { at < 2 ^ 32 }
-        ensures area { area.new ≡ written area.old at (refusal_text self.now) }
-        ensures next { result ≡ at + 13 }
+    // Writes the refusal as a line of text.
+    pub fn put(&self, to: &mut Writer<'_>)
+        requires { to.old.at < 2 ^ 32 }
+        ensures { Writes to.old to.new (refusal_text self.now) }
     {
-        let kind = put_number(area, at, 0x43, 2);
-        let number = put_number(area, kind, self.number() as u32, 2);
-        let line = put_number(area, number, self.line(), 8);
-        put(area, line, b'\n')
+        to.put_number(0x43, 2);
+        to.put_number(self.number() as u32, 2);
+        to.put_number(self.line(), 8);
+        to.put(b'\n');
     }
 
     // Writes the refusal as a line of text, and tells its length; an area that is too short is refused and left as it was.
@@ -88,6 +87,8 @@ impl Refusal {
         if area.len() < 13 {
             return Err(Refusal::Room);
         }
-        Ok(self.put(area, 0))
+        let mut writer = Writer { area, at: 0 };
+        self.put(&mut writer);
+        Ok(writer.at)
     }
 }

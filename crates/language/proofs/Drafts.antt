@@ -24,11 +24,8 @@ pub record Kept (d : Draft) : Type 0 where
   pub narrow : width d.connectives d.nodes ≤ 12
   pub rooted : d.ended ≡ true → 0 < length d.nodes
 
-never_false : {A : Type 0} → false ≡ true → A
-never_false h = absurd (both_ways false refl h)
-
 idle_moves : (m n q f : ℕ) → Moves (idle m n q f)
-idle_moves m n q f x y z h = never_false h
+idle_moves m n q f x y z h = cc
 
 -- the connectives of a list with one more, and with one put in another's place
 push_moves : (cs : List Connective) (x : Connective) → ((c : ℕ) → Moves (connective_at cs c)) → Moves x → (c : ℕ) → Moves (connective_at (cs ++ x ∷ []) c)
@@ -75,7 +72,7 @@ push_lower cs k (x ∷ ns) n h f =
 
 empty : {A : Type 0} (xs : List A) → is_empty xs ≡ true → xs ≡ []
 empty [] h = refl
-empty (x ∷ xs) h = never_false h
+empty (x ∷ xs) h = cc
 
 filled : {A : Type 0} (xs : List A) → is_empty xs ≡ false → 0 < length xs
 filled [] h = absurd (both_ways true h refl)
@@ -156,7 +153,7 @@ kept_blank = record {
   few_nodes = omega arith;
   operands_lower = refl;
   narrow = omega arith;
-  rooted = λ h. never_false h;
+  rooted = λ h. cc;
 }
 
 pub kept_line : (n : ℕ) (d e : Draft) (line : List ℕ) → judged n d line ≡ Ok e → Kept d → Kept e

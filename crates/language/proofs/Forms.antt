@@ -1,5 +1,5 @@
 -- A property that is read is well formed.
-use Rattle.std.proofs.Common.{◌≡◌, ℕ, ◌+◌, true, List, length, Ok, Err, Result, subst, arith}
+use Rattle.std.proofs.Common.{◌≡◌, ℕ, ◌+◌, true, List, length, Ok, Result, subst}
 use Rattle.frames.specs.declared.faults.Refusal.{Refusal}
 use Rattle.language.specs.Properties.{Property, WellFormed}
 use Rattle.language.specs.Reading.{Draft, property, read}
@@ -19,14 +19,11 @@ formed e shut k = record {
   narrow = k.narrow;
 }
 
-refused : {A : Type 0} (r : Refusal) (p : Property) → ◌≡◌ {A = Result Property Refusal} (Err r) (Ok p) → A
-refused r p h = let z : ◌≡◌ {A = ℕ} 0 1 = cc in absurd (omega arith)
-
 decided_formed : (text : List ℕ) (p : Property) {r : Result Property Refusal} → Decided text r → r ≡ Ok p → WellFormed p
-decided_formed text p (too_long h) is = refused _ p is
-decided_formed text p (faulty before after line d r h s t j) is = refused _ p is
-decided_formed text p (unclosed d h t l) is = refused _ p is
-decided_formed text p (endless d h t r going) is = refused _ p is
+decided_formed text p (too_long h) is = cc
+decided_formed text p (faulty before after line d r h s t j) is = cc
+decided_formed text p (unclosed d h t l) is = cc
+decided_formed text p (endless d h t r going) is = cc
 decided_formed text p (whole before line d e h s r t ending j) is =
     let q : property e ≡ p = cc in
     subst WellFormed q (formed e (end_shuts (1 + length before) d e line ending j) (kept_line (1 + length before) d e line j (kept t kept_blank)))

@@ -7,13 +7,10 @@ use Rattle.std.proofs.lemmas.Bool.{and_parts, and_from, lt-ltb, eqb-true, eq-eqb
 use Rattle.frames.specs.Frames.Frame.{connective}
 use Rattle.language.specs.Properties.{Connective, connective_at, connective_fits, all_fit}
 use Rattle.language.specs.Canonical.{each, transition_line, transition_lines, connective_lines}
+use Rattle.language.proofs.Drafts.{Moves}
 use Rattle.language.proofs.Goes.{Good, Goes, goes_append, goes_one}
 use Rattle.language.proofs.Goes.Goes.{none}
 use Rattle.language.proofs.Moves.{May, with, heads, nothing, plus, any, single, Small, small, every, transitions_go}
-
--- transitions are among the states and letters
-abbrev pub Fit : Connective → Type 0
-Fit c = (q a r : ℕ) → c.may q a r ≡ true → (q < c.states) × (a < c.letters) × (r < c.states)
 
 any_find : (n : ℕ) (b : ℕ → May) (x y z : ℕ) → any n b x y z ≡ true → (i : ℕ) × (i < n) × (b i x y z ≡ true)
 any_find zero b x y z h = absurd (false≢true h)
@@ -35,10 +32,7 @@ same true false f g = sym (f refl)
 same false true f g = g refl
 same false false f g = refl
 
-moved_along : (c : Connective) {x y z p a r : ℕ} → x ≡ p → y ≡ a → z ≡ r → c.may p a r ≡ true → c.may x y z ≡ true
-moved_along c ex ey ez h = cc
-
-module _ (c : Connective) (fit : Fit c) where
+module _ (c : Connective) (fit : Moves c) where
   only : (x y z : ℕ) → every c x y z ≡ true → c.may x y z ≡ true
   only x y z h =
       let u = any_find c.states (λ p. any c.letters (λ a. any c.states (λ r. single c p a r))) x y z h in
@@ -50,7 +44,7 @@ module _ (c : Connective) (fit : Fit c) where
       let ex = eqb-true x u.0 l.0 in
       let ey = eqb-true y v.0 m.0 in
       let ez = eqb-true z w.0 m.1 in
-      moved_along c ex ey ez k.0
+      cc k.0
 
   all : (x y z : ℕ) → c.may x y z ≡ true → every c x y z ≡ true
   all x y z h =
@@ -69,7 +63,7 @@ module _ (c : Connective) (fit : Fit c) where
   whole = fun_ext (λ x. fun_ext (λ y. fun_ext (λ z. each_is x y z)))
 
 -- a connective's lines add it
-connective_goes : (cs : List Connective) (c : Connective) → length cs < 4 → connective_fits c ≡ true → Fit c → Goes (heads cs) (connective_lines c) (heads (cs ++ c ∷ []))
+connective_goes : (cs : List Connective) (c : Connective) → length cs < 4 → connective_fits c ≡ true → Moves c → Goes (heads cs) (connective_lines c) (heads (cs ++ c ∷ []))
 connective_goes cs c few fits fit =
     let s = small c fits in
     let a = s.most_states in
@@ -86,7 +80,7 @@ connective_goes cs c few fits fit =
     subst (λ (m : May). Goes (heads (cs ++ with c nothing ∷ [])) (transition_lines c) (heads (cs ++ with c m ∷ []))) (whole c fit) (transitions_go cs c s) in
     goes_append first then
 
-pub connectives_go : (cs rest : List Connective) → length cs + length rest ≤ 4 → all_fit rest ≡ true → ((k : ℕ) → Fit (connective_at rest k)) → Goes (heads cs) (flat_map connective_lines rest) (heads (cs ++ rest))
+pub connectives_go : (cs rest : List Connective) → length cs + length rest ≤ 4 → all_fit rest ≡ true → ((k : ℕ) → Moves (connective_at rest k)) → Goes (heads cs) (flat_map connective_lines rest) (heads (cs ++ rest))
 connectives_go cs [] few fits fit = subst (λ (l : List Connective). Goes (heads cs) [] (heads l)) (sym (append-nil cs)) none
 connectives_go cs (c ∷ rest) few fits fit =
     let parts = and_parts (connective_fits c) (all_fit rest) fits in

@@ -3,7 +3,7 @@ use Rattle.std.proofs.Common.{◌≡◌, ℕ, suc, ◌+◌, Bool, true, false, c
 use Rattle.std.proofs.lemmas.Bool.{and_left, not_from_true}
 use Rattle.frames.specs.declared.faults.FrameFault.{FrameFault}
 use Rattle.frames.specs.declared.faults.Refusal.{Refusal}
-use Rattle.frames.specs.declared.faults.Refusal.TheVariants.{Frame as Framed, Order, Value, Limit}
+use Rattle.frames.specs.declared.faults.Refusal.TheVariants.{Order, Value, Limit}
 use Rattle.frames.specs.Frames.{Frame, frame_of_line}
 use Rattle.frames.specs.Frames.Frame.{connective, transition, node, end}
 use Rattle.language.specs.Reading.{Draft, extended, finished, in_order, in_range, judged, lines_read, onward, taken_frame, within_limits}
@@ -19,18 +19,15 @@ pub record Took (d : Draft) (found : Result Frame FrameFault) (e : Draft) : Type
   pub limits : within_limits d frame ≡ true
   pub to : e ≡ extended d frame
 
-never_taken : {A : Type 0} (r : Refusal) (e : Draft) → ◌≡◌ {A = Result Draft Refusal} (Err r) (Ok e) → A
-never_taken r e h = let z : ◌≡◌ {A = ℕ} 0 1 = cc in absurd (omega arith)
-
 took_by : (n : ℕ) (d e : Draft) (f : Frame) (a b c : Bool) → in_order d f ≡ a → in_range d f ≡ b → within_limits d f ≡ c → cond a (cond b (cond c (Ok (extended d f)) (Err (Limit n))) (Err (Value n))) (Err (Order n)) ≡ Ok e → Took d (Ok f) e
 took_by n d e f true true true o r l h = record { frame = f; is = refl; order = o; range = r; limits = l; to = cc }
-took_by n d e f true true false o r l h = never_taken (Limit n) e h
-took_by n d e f true false c o r l h = never_taken (Value n) e h
-took_by n d e f false b c o r l h = never_taken (Order n) e h
+took_by n d e f true true false o r l h = cc
+took_by n d e f true false c o r l h = cc
+took_by n d e f false b c o r l h = cc
 
 took_frame : (n : ℕ) (d e : Draft) (found : Result Frame FrameFault) → taken_frame n d found ≡ Ok e → Took d found e
 took_frame n d e (Ok f) h = took_by n d e f (in_order d f) (in_range d f) (within_limits d f) refl refl refl h
-took_frame n d e (Err fault) h = never_taken (Framed fault) e h
+took_frame n d e (Err fault) h = cc
 
 pub took : (n : ℕ) (d e : Draft) (line : List ℕ) → judged n d line ≡ Ok e → Took d (frame_of_line n line) e
 took n d e line h = took_frame n d e (frame_of_line n line) h

@@ -16,10 +16,11 @@ use Rattle.language.proofs.Moves.{small}
 abbrev pub noded : List Connective → List Node → Draft
 noded cs ns = record { connectives = cs; nodes = ns; ended = false }
 
-fits_at : (cs : List Connective) (c : ℕ) → all_fit cs ≡ true → c < length cs → connective_fits (connective_at cs c) ≡ true
-fits_at [] c h l = absurd (omega arith)
-fits_at (x ∷ cs) zero h l = (and_parts (connective_fits x) (all_fit cs) h).0
-fits_at (x ∷ cs) (suc c) h l = fits_at cs c (and_parts (connective_fits x) (all_fit cs) h).1 (omega arith)
+-- each connective fits
+pub connective_fit : (cs : List Connective) → all_fit cs ≡ true → (c : ℕ) → c < length cs → connective_fits (connective_at cs c) ≡ true
+connective_fit [] h c l = absurd (omega arith)
+connective_fit (x ∷ cs) h zero l = (and_parts (connective_fits x) (all_fit cs) h).0
+connective_fit (x ∷ cs) h (suc c) l = connective_fit cs (and_parts (connective_fits x) (all_fit cs) h).1 c (omega arith)
 
 below_more : (k n : ℕ) (is : List ℕ) → k ≤ n → all_below k is ≡ true → all_below n is ≡ true
 below_more k n [] l h = refl
@@ -35,7 +36,7 @@ module _ (cs : List Connective) (k : ℕ) (low : k < 32) (few : length cs ≤ 4)
       let a = and_parts (ltb c (length cs)) (eqb (length is) (connective_at cs c).letters && all_below k is) h in
       let b = and_parts (eqb (length is) (connective_at cs c).letters) (all_below k is) a.1 in
       let l = ltb-true c (length cs) a.0 in
-      let s = small (connective_at cs c) (fits_at cs c fits l) in
+      let s = small (connective_at cs c) (connective_fit cs fits c l) in
       let e = eqb-true (length is) (connective_at cs c).letters b.0 in
       let u = s.least_letters in
       let v = s.most_letters in

@@ -1,5 +1,6 @@
 -- What a property is: connectives, and nodes over them. The last node is the root.
 use Rattle.std.specs.Prelude.{◌≡◌, ℕ, suc, ◌+◌, ◌^◌, ◌<◌, ◌≤◌, Bool, true, false, ◌&&◌, List, [], ◌∷◌, length, ◌==◌, nat_le, nat_lt, slice_index_or}
+use Rattle.std.specs.List.{list_all}
 use Rattle.frames.specs.Frames.{Node}
 use Rattle.frames.specs.Frames.Node.{proposition, negation, next, both, either, apply, truth}
 
@@ -35,8 +36,7 @@ all_fit [] = true
 all_fit (c ∷ cs) = connective_fits c && all_fit cs
 
 abbrev pub all_below : ℕ → List ℕ → Bool
-all_below n [] = true
-all_below n (i ∷ is) = nat_lt i n && all_below n is
+all_below n is = list_all (λ i. nat_lt i n) is
 
 -- a node may stand as number k: its operands are lower, and a connective has one for each letter
 abbrev pub node_fits : List Connective → ℕ → Node → Bool

@@ -1,7 +1,7 @@
 -- What a node says by the bits at hand is its truth.
 use Rattle.std.proofs.Common.{◌≡◌, ℕ, zero, suc, ◌+◌, ◌^◌, ◌<◌, Bool, true, T, ltb, leb, ◌↔◌, List, [], ◌∷◌, length, get_or, take, set, sym, refl, ap, ◌∙◌, subst, ap₂, arith}
 use mathlib.Core.Logic.Iff
-use Rattle.std.proofs.lemmas.List.{get_or-take, length-take, get_or-map}
+use Rattle.std.proofs.lemmas.List.{get_or-take, get_or_default, length-take, get_or-map}
 use Rattle.std.proofs.lemmas.Bool.{and_parts, ltb-true}
 use Rattle.frames.specs.Frames.{Node}
 use Rattle.frames.specs.Frames.Node.{apply, truth}
@@ -14,6 +14,7 @@ use Rattle.logic.proofs.Sat.{fulfil_map, holds_unfold}
 use Rattle.properties.specs.Meaning.{meaning}
 use Rattle.properties.specs.Views.{connective_of, no_row, node_of}
 use Rattle.properties.specs.declared.property.Property.{Property as Stored}
+use Rattle.properties.specs.declared.rows.Connective.{Connective as ConnectiveRow}
 use Rattle.properties.specs.declared.rows.Node.{Node as NodeRow}
 use Rattle.properties.specs.declared.rows.Node.TheVariants.{True, Proposition, Not, Next, And, Or, Apply}
 use Rattle.properties.proofs.Formed.{formed}
@@ -115,14 +116,18 @@ module _ (p : Stored) (k c arity : ℕ) (operands : List ℕ) (lk : k < p.rows.c
   pub row_in : c < 4
   row_in = omega (arith, used, p.rows.few_connectives)
 
+  -- the row, as the code reads it
+  pub read_row : (row : ConnectiveRow) → get_or p.rows.connectives c row ≡ get_or p.rows.connectives c no_row
+  read_row row = get_or_default p.rows.connectives c row no_row (omega (arith, row_in, p.rows.four))
+
   row_is : connective_at (meaning p).connectives c ≡ connective_of (get_or p.rows.connectives c no_row)
   row_is = connective_in p.rows c used
 
   -- which fits
   pub connective_row_fits : Fits (get_or p.rows.connectives c no_row)
   connective_row_fits = record {
-    states = p.rows.few_states c;
-    letters = p.rows.few_letters c;
+    states = (get_or p.rows.connectives c no_row).few_states;
+    letters = (get_or p.rows.connectives c no_row).few_letters;
     finals = finals_fit (connective_of (get_or p.rows.connectives c no_row)) (subst (λ x. connective_fits x ≡ true) row_is (connective_fit (meaning p).connectives (formed p).connectives_fit c applied_fits.0));
   }
 

@@ -83,12 +83,9 @@ of_entry : (m : Kripke) (entry : Option Property) (v : Finding) → Sound m (Ok 
 of_entry m (Some f) v s = (f, refl)
 of_entry m None v s = absurd s
 
-broken≢holds : {A : Type 0} {p : Lasso} → broken p ≡ holds → A
-broken≢holds e = let z : ◌≡◌ {A = ℕ} 0 1 = cc in absurd (omega arith)
-
 exactly : (m : Kripke) (f : Property) (v : Finding) → Right m f v → (v ≡ holds) ↔ NeverFalsified m f
 exactly m f holds r = (λ e. r, λ n. refl)
-exactly m f (broken p) r = (λ e. broken≢holds e, λ n. absurd (n p r))
+exactly m f (broken p) r = (λ e. cc, λ n. absurd (n p r))
 
 witness : (m : Kripke) (f : Property) (v : Finding) → Right m f v → ¬ (v ≡ holds) → (p : Lasso) × (v ≡ broken p) × Counterexample m f p
 witness m f holds r n = absurd (n refl)

@@ -1,5 +1,6 @@
 -- The ledger: a plain machine that is fed each turn's arguments and whether the turn was refused, and no other answer.
-use Rattle.std.specs.Prelude.{ℕ, ◌+◌, Bool, true, false, cond, [], ◌∷◌, Some, None, Ok, Err, Option, Result, ◌==◌}
+use Rattle.std.specs.Prelude.{ℕ, ◌+◌, Bool, true, false, cond, [], ◌∷◌, None, Option, Result, ◌==◌}
+use Rattle.std.specs.Result.{result_ok}
 use Rattle.frames.specs.declared.faults.Refusal.{Refusal}
 use Rattle.language.specs.Properties.{Property}
 use Rattle.language.specs.Reading.{read}
@@ -26,8 +27,7 @@ changed l number entry false = l
 
 -- the property that was read, if one was
 abbrev pub property_in : Result Property Refusal → Option Property
-property_in (Ok f) = Some f
-property_in (Err why) = None
+property_in r = result_ok r
 
 -- the ledger after one more turn
 abbrev pub after : Ledger → Turn → Ledger

@@ -1,5 +1,5 @@
 -- The table: what a turn is refused with, by what it brings and by what is under each number. The first refusal that is called for decides.
-use Rattle.std.specs.Prelude.{ℕ, cond, List, length, Some, None, Ok, Err, Option, Result, nat_le, nat_lt}
+use Rattle.std.specs.Prelude.{ℕ, cond, List, length, Some, None, Ok, Err, Option, Result, ok_or, nat_le, nat_lt}
 use Rattle.frames.specs.declared.faults.Refusal.{Refusal}
 use Rattle.frames.specs.declared.faults.Refusal.TheVariants.{Number, Vacant, Room}
 use Rattle.kripke.specs.Models.{Kripke}
@@ -13,8 +13,7 @@ use Rattle.ledger.specs.Ledgers.{Ledger}
 
 -- a property that is there, or the refusal of a number that has nothing under it
 abbrev pub or_vacant : Option Property → Result Property Refusal
-or_vacant (Some f) = Ok f
-or_vacant None = Err Vacant
+or_vacant entry = ok_or entry Vacant
 
 -- the property under a number: first a number above 7 is refused (7), then one that has nothing under it (8)
 abbrev pub found : (ℕ → Option Property) → (number : ℕ) → Result Property Refusal

@@ -1,5 +1,6 @@
 -- The turns made of a docket: what each brought, and what it got.
-use Rattle.std.specs.Prelude.{ℕ, Bool, true, false, List, Some, None, Ok, Err, Option, Result}
+use Rattle.std.specs.Prelude.{ℕ, Bool, List, None, Option, Result}
+use Rattle.std.specs.Result.{is_ok, result_err}
 use Rattle.frames.specs.declared.faults.Refusal.{Refusal}
 use Rattle.kripke.specs.Lassos.{Lasso}
 use Rattle.kripke.specs.Models.{Kripke}
@@ -28,8 +29,7 @@ History = List Turn
 
 -- the refusal in an answer, if it is one
 abbrev pub refusal_in : {A : Type 0} → Result A Refusal → Option Refusal
-refusal_in (Ok x) = None
-refusal_in (Err why) = Some why
+refusal_in r = result_err r
 
 -- what a turn was refused with, if it was
 abbrev pub refused_with : Turn → Option Refusal
@@ -41,5 +41,4 @@ refused_with (tally n) = None
 
 -- whether an answer is no refusal
 abbrev pub accepted : {A : Type 0} → Result A Refusal → Bool
-accepted (Ok x) = true
-accepted (Err why) = false
+accepted r = is_ok r

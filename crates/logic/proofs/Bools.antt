@@ -1,15 +1,10 @@
 -- Tests: what `&&`, `||`, `not` and `some_below` say.
-use Rattle.std.proofs.Common.{◌≡◌, ℕ, zero, suc, ◌<◌, Bool, true, false, not, ◌&&◌, ◌||◌, T, eqb, ◌⊎◌, ◌↔◌, sym, refl, subst, inl, inr, not-suc-le-zero, arith}
+use Rattle.std.proofs.Common.{◌≡◌, ℕ, zero, suc, ◌<◌, Bool, true, false, not, ◌&&◌, ◌||◌, T, eqb, ◌⊎◌, ◌↔◌, sym, refl, subst, inl, inr, ⊎_elim, not-suc-le-zero, arith}
+use Rattle.std.proofs.Math.Logic.{⊎_map}
+pub use Rattle.std.proofs.Math.Facts.{yes_and as T_and, and_yes as and_T, or_yes as or_T}
+pub use Rattle.std.proofs.lemmas.Float.{T_from_true as true_T}
 use Rattle.std.proofs.lemmas.Bool.{eqb-false, eqb-true}
 use Rattle.logic.specs.Product.{some_below}
-
-pub T_and : (a b : Bool) → T a → T b → T (a && b)
-T_and true b p q = q
-T_and false b p q = p
-
-pub and_T : (a b : Bool) → T (a && b) → T a × T b
-and_T true b p = (tt, p)
-and_T false b p = absurd p
 
 pub T_or_left : (a b : Bool) → T a → T (a || b)
 T_or_left true b p = tt
@@ -19,9 +14,10 @@ pub T_or_right : (a b : Bool) → T b → T (a || b)
 T_or_right true b p = tt
 T_or_right false b p = p
 
-pub or_T : (a b : Bool) → T (a || b) → T a ⊎ T b
-or_T true b p = inl tt
-or_T false b p = inr p
+-- a test that passes is equal to true
+pub T_true : (a : Bool) → T a → a ≡ true
+T_true true t = refl
+T_true false t = absurd t
 
 -- two tests that pass together are one
 pub T_same : (a b : Bool) → (T a → T b) → (T b → T a) → a ≡ b
@@ -39,15 +35,10 @@ pub iff_and : (a b : Bool) {P Q : Type 0} → T a ↔ P → T b ↔ Q → T (a &
 iff_and a b d e = (λ t. (d.0 (and_T a b t).0, e.0 (and_T a b t).1), λ s. T_and a b (d.1 s.0) (e.1 s.1))
 
 pub iff_or : (a b : Bool) {P Q : Type 0} → T a ↔ P → T b ↔ Q → T (a || b) ↔ (P ⊎ Q)
-iff_or a b {P = P} {Q = Q} d e = (λ t. forth (or_T a b t), over)
-  where
-    forth : T a ⊎ T b → P ⊎ Q
-    forth (inl s) = inl (d.0 s)
-    forth (inr s) = inr (e.0 s)
-
-    over : P ⊎ Q → T (a || b)
-    over (inl s) = T_or_left a b (d.1 s)
-    over (inr s) = T_or_right a b (e.1 s)
+iff_or a b d e = (
+  λ t. ⊎_map d.0 e.0 (or_T a b t),
+  ⊎_elim (λ p. T_or_left a b (d.1 p)) (λ q. T_or_right a b (e.1 q)),
+)
 
 -- a number below n that passes the test
 pub some_in : (n : ℕ) (p : ℕ → Bool) (i : ℕ) → i < n → T (p i) → T (some_below n p)

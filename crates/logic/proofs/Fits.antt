@@ -1,9 +1,11 @@
 -- What the tests of a well-formed property say of its nodes and connectives.
-use Rattle.std.proofs.Common.{◌≡◌, ℕ, zero, suc, ◌+◌, ◌^◌, ◌<◌, true, ◌&&◌, eqb, ltb, leb, List, [], ◌∷◌, length, get_or, sym, ap, ◌∙◌, subst, le_of_suc-le-suc, not-suc-le-zero, add-zero, zero-add, arith}
+use Rattle.std.proofs.Common.{◌≡◌, ℕ, zero, suc, ◌+◌, ◌<◌, true, ◌&&◌, eqb, ltb, List, [], ◌∷◌, length, get_or, sym, ap, ◌∙◌, subst, le_of_suc-le-suc, not-suc-le-zero, add-zero, zero-add, arith}
 use Rattle.std.proofs.lemmas.Bool.{and_parts, eqb-true, ltb-true}
 use Rattle.frames.specs.Frames.{Node}
 use Rattle.frames.specs.Frames.Node.{proposition, negation, next, both, either, apply, truth}
-use Rattle.language.specs.Properties.{Connective, Property, WellFormed, all_below, all_fit, connective_at, connective_fits, node_fits, nodes_fit}
+use Rattle.language.specs.Properties.{Connective, Property, WellFormed, all_below, connective_at, node_fits, nodes_fit}
+use Rattle.language.proofs.Moves.{small}
+use Rattle.language.proofs.Nodes.{connective_fit}
 use Rattle.logic.specs.Truth.{node_at, root}
 
 -- the operands of node k are lower, and a connective has one for each letter
@@ -36,7 +38,7 @@ node_fit f k (apply c is) h =
 node_fit f k truth h = tt
 
 -- the test of all nodes, the first of which is number n, at one of them
-nodes_at : (cs : List Connective) (n : ℕ) (ns : List Node) → nodes_fit cs n ns ≡ true → (k : ℕ) → k < length ns → node_fits cs (n + k) (get_or ns k truth) ≡ true
+pub nodes_at : (cs : List Connective) (n : ℕ) (ns : List Node) → nodes_fit cs n ns ≡ true → (k : ℕ) → k < length ns → node_fits cs (n + k) (get_or ns k truth) ≡ true
 nodes_at cs n [] h k lt = absurd (not-suc-le-zero lt)
 nodes_at cs n (x ∷ ns) h zero lt = ap (λ m. node_fits cs m x) (add-zero n) ∙ (and_parts (node_fits cs n x) (nodes_fit cs (suc n) ns) h).0
 nodes_at cs n (x ∷ ns) h (suc k) lt =
@@ -54,23 +56,10 @@ fits_at f wf k lt =
 pub operand_below : (f : Property) (k c : ℕ) (is : List ℕ) → NodeFits f k (apply c is) → (a : ℕ) → a < (connective_at f.connectives c).letters → get_or is a 0 < k
 operand_below f k c is fits a lt = fits.2 a (subst (λ n. a < n) (sym fits.1) lt)
 
-connective_fit : (cs : List Connective) → all_fit cs ≡ true → (c : ℕ) → c < length cs → connective_fits (connective_at cs c) ≡ true
-connective_fit [] h c lt = absurd (not-suc-le-zero lt)
-connective_fit (x ∷ cs) h zero lt = (and_parts (connective_fits x) (all_fit cs) h).0
-connective_fit (x ∷ cs) h (suc c) lt = connective_fit cs (and_parts (connective_fits x) (all_fit cs) h).1 c (le_of_suc-le-suc lt)
-
-start_in : (c : Connective) → connective_fits c ≡ true → c.start < c.states
-start_in c h =
-    let a = and_parts (leb 1 c.states) _ h in
-    let b = and_parts (leb c.states 8) _ a.1 in
-    let d = and_parts (leb 1 c.letters) _ b.1 in
-    let e = and_parts (leb c.letters 4) _ d.1 in
-    ltb-true c.start c.states (and_parts (ltb c.start c.states) (ltb c.finals (2 ^ c.states)) e.1).0
-
 -- a connective of a well-formed property starts at one of its states
 pub start_fits : (f : Property) → WellFormed f → (c : ℕ) → c < length f.connectives →
     (connective_at f.connectives c).start < (connective_at f.connectives c).states
-start_fits f wf c lt = start_in (connective_at f.connectives c) (connective_fit f.connectives wf.connectives_fit c lt)
+start_fits f wf c lt = (small (connective_at f.connectives c) (connective_fit f.connectives wf.connectives_fit c lt)).starts
 
 -- the root is a node
 pub root_in : (f : Property) → WellFormed f → root f < length f.nodes

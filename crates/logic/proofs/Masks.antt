@@ -16,7 +16,7 @@ mask_fits (suc n) g = go (g n) (mask_fits n g)
     go false h = let e : 2 ^ suc n ≡ 2 ^ n * 2 = pow-suc 2 n in omega arith
 
 -- a digit at n or above leaves the bits below n
-high_digit : (d n i lo : ℕ) → i < n → (d * 2 ^ n + lo) / 2 ^ i % 2 ≡ lo / 2 ^ i % 2
+pub high_digit : (d n i lo : ℕ) → i < n → (d * 2 ^ n + lo) / 2 ^ i % 2 ≡ lo / 2 ^ i % 2
 high_digit d n i lo h =
     let e : ℕ = n - suc i in
     let sum : n ≡ suc e + i = omega arith in

@@ -38,7 +38,7 @@ none_in_product m f p wf loops none falsifies =
     none s.0 s.1 (λ t. falsifies ((s.1.sat_is_truth (root f) (root_in f wf) 0 (first_in p loops)).0 t)))
 
 -- each position comes to the first loop position
-comes_to_stem : (m : Kripke) (p : Lasso) (j i : ℕ) → suc (j + i) ≡ p.stem + p.loop → later (lasso_line m p) (suc j) i ≡ p.stem
+pub comes_to_stem : (m : Kripke) (p : Lasso) (j i : ℕ) → suc (j + i) ≡ p.stem + p.loop → later (lasso_line m p) (suc j) i ≡ p.stem
 comes_to_stem m p zero i e = last_follower p i (omega arith)
 comes_to_stem m p (suc j) i e =
     ap (later (lasso_line m p) (suc j)) (next_follower p i (omega arith)) ∙ comes_to_stem m p j (suc i) (omega arith)

@@ -1,6 +1,7 @@
 -- A node's truth, at a vertex and on a line, from that of its operands.
-use Rattle.std.proofs.Common.{◌≡◌, ℕ, zero, suc, ◌+◌, ◌<◌, Bool, true, false, not, ◌&&◌, ◌||◌, eqb, ◌⊎◌, ◌↔◌, length, get_or, sym, refl, ap, ◌∙◌, subst, ap₂, inl, inr, not-suc-le-zero, arith}
+use Rattle.std.proofs.Common.{◌≡◌, ℕ, zero, suc, ◌+◌, ◌<◌, Bool, true, false, not, ◌&&◌, ◌||◌, eqb, ◌↔◌, length, get_or, sym, refl, ap, ◌∙◌, subst, ap₂, not-suc-le-zero, arith}
 use mathlib.Core.Logic.Iff
+use Rattle.std.proofs.Math.Logic.{⊎_map}
 use Rattle.std.proofs.lemmas.Bool.{eq-eqb, eqb-false, eqb-true}
 use Rattle.frames.specs.Frames.{Node}
 use Rattle.frames.specs.Frames.Node.{proposition, negation, next, both, either, apply, truth}
@@ -25,12 +26,12 @@ sat_stays f lab K (suc n) k h = go (eqb k n) refl (sat_stays f lab K n k)
         ap (λ (b : Bool). elim b as (λ _. Bool) [ true ↦ sat_node f lab K (sat_below f lab K n) (start_of f n) (node_at f n) | false ↦ sat_below f lab K n k ]) e ∙ ih lower
 
 -- operands that agree make the same claim
-claim_same : (c : Connective) (g h : ℕ → Bool) (K o q : ℕ) → ((a : ℕ) → a < c.letters → g a ≡ h a) → claim_of c g K o q ≡ claim_of c h K o q
+pub claim_same : (c : Connective) (g h : ℕ → Bool) (K o q : ℕ) → ((a : ℕ) → a < c.letters → g a ≡ h a) → claim_of c g K o q ≡ claim_of c h K o q
 claim_same c g h K o q e =
     ap (λ x. bit c.finals q || x) (some_same c.letters _ _ (λ a lt. ap (λ x. x && some_below c.states (λ r. c.may q a r && bit K (o + r))) (e a lt)))
 
 -- a node says the same of operands that agree
-sat_node_same : (f : Property) (lab K o k : ℕ) (g h : ℕ → Bool) → ((j : ℕ) → j < k → g j ≡ h j) → (x : Node) → NodeFits f k x → sat_node f lab K g o x ≡ sat_node f lab K h o x
+pub sat_node_same : (f : Property) (lab K o k : ℕ) (g h : ℕ → Bool) → ((j : ℕ) → j < k → g j ≡ h j) → (x : Node) → NodeFits f k x → sat_node f lab K g o x ≡ sat_node f lab K h o x
 sat_node_same f lab K o k g h e (proposition p) fits = refl
 sat_node_same f lab K o k g h e (negation j) fits = ap not (e j fits)
 sat_node_same f lab K o k g h e (next j) fits = refl
@@ -68,15 +69,7 @@ module _ (f : Property) (l : Line) (k : ℕ) (P Q : ℕ → ℕ → Type 0) (sam
   says_same (negation j) fits i = Iff.not (same j i fits)
   says_same (next j) fits i = same j (l.after i) fits
   says_same (both j m) fits i = Iff.and (same j i fits.0) (same m i fits.1)
-  says_same (either j m) fits i = (forth, over)
-    where
-      forth : P j i ⊎ P m i → Q j i ⊎ Q m i
-      forth (inl a) = inl ((same j i fits.0).0 a)
-      forth (inr b) = inr ((same m i fits.1).0 b)
-
-      over : Q j i ⊎ Q m i → P j i ⊎ P m i
-      over (inl a) = inl ((same j i fits.0).1 a)
-      over (inr b) = inr ((same m i fits.1).1 b)
+  says_same (either j m) fits i = (⊎_map (same j i fits.0).0 (same m i fits.1).0, ⊎_map (same j i fits.0).1 (same m i fits.1).1)
   says_same (apply c is) fits i = (
     fulfil_map (connective_at f.connectives c) (λ a j. P (get_or is a 0) j) (λ a j. Q (get_or is a 0) j) l (λ _. Unit {0}) (λ _ _. tt)
         (λ a j lt _ p. (same (get_or is a 0) j (operand_below f k c is fits a lt)).0 p) (connective_at f.connectives c).start i tt,

@@ -1,6 +1,7 @@
 -- A lasso's truth is that of the infinite word that it stands for.
-use Rattle.std.proofs.Common.{◌≡◌, ℕ, zero, suc, Bool, true, false, T, eqb, ◌⊎◌, ◌↔◌, get_or, sym, refl, ap, ◌∙◌, subst, inl, inr}
+use Rattle.std.proofs.Common.{◌≡◌, ℕ, zero, suc, Bool, true, false, T, eqb, ◌↔◌, get_or, sym, refl, ap, ◌∙◌, subst}
 use mathlib.Core.Logic.Iff
+use Rattle.std.proofs.Math.Logic.{⊎_map}
 use Rattle.frames.specs.Frames.{Node}
 use Rattle.frames.specs.Frames.Node.{proposition, negation, next, both, either, apply, truth}
 use Rattle.kripke.specs.Models.{Kripke}
@@ -25,15 +26,7 @@ module _ (far near : Line) (h : ℕ → ℕ)
   says f P Q same (negation k) i = Iff.not (same k i)
   says f P Q same (next k) i = (λ t. (same k (far.after i)).0 (subst (P k) (afters i) t), λ t. subst (P k) (sym (afters i)) ((same k (far.after i)).1 t))
   says f P Q same (both k m) i = Iff.and (same k i) (same m i)
-  says f P Q same (either k m) i = (forth, back)
-    where
-      forth : P k (h i) ⊎ P m (h i) → Q k i ⊎ Q m i
-      forth (inl a) = inl ((same k i).0 a)
-      forth (inr b) = inr ((same m i).0 b)
-
-      back : Q k i ⊎ Q m i → P k (h i) ⊎ P m (h i)
-      back (inl a) = inl ((same k i).1 a)
-      back (inr b) = inr ((same m i).1 b)
+  says f P Q same (either k m) i = (⊎_map (same k i).0 (same m i).0, ⊎_map (same k i).1 (same m i).1)
   says f P Q same (apply c is) i = (
     λ t. record { word = t.word; run = t.run; accepts = t.accepts; operands = λ j lt. (same _ _).0 (subst (P (get_or is (get_or t.word j 0) 0)) (laters j i) (t.operands j lt)) },
     λ t. record { word = t.word; run = t.run; accepts = t.accepts; operands = λ j lt. subst (P (get_or is (get_or t.word j 0) 0)) (sym (laters j i)) ((same _ _).1 (t.operands j lt)) },

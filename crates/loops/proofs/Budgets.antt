@@ -1,5 +1,5 @@
 -- The rounds of a node and of all nodes: what is written between two rounds, and that there is room for one more.
-use Rattle.std.proofs.Common.{◌≡◌, ℕ, suc, ◌+◌, ◌-◌, ◌*◌, ◌/◌, ◌%◌, ◌^◌, ◌<◌, ◌≤◌, Bool, ◌⊎◌, List, length, take, drop, sym, refl, ap, ◌∙◌, subst, subst₂, inl, inr, ⊎_elim, add-mul, arith}
+use Rattle.std.proofs.Common.{◌≡◌, ℕ, suc, ◌+◌, ◌-◌, ◌*◌, ◌/◌, ◌%◌, ◌^◌, ◌<◌, ◌≤◌, Bool, ◌⊎◌, List, length, take, drop, sym, refl, ap, ◌∙◌, subst, inl, inr, ⊎_elim, add-mul, arith}
 use Rattle.frames.specs.Frames.{Node}
 use Rattle.frames.specs.Frames.Node.{proposition, truth, negation, next, both, either, apply}
 use Rattle.kripke.specs.Models.{Kripke}
@@ -19,13 +19,9 @@ use Rattle.tableau.proofs.Masking.{masked}
 use Rattle.loops.specs.declared.progress.Progress.{Progress}
 use Rattle.loops.specs.Carrying.{PendingOf}
 use Rattle.loops.specs.Rounding.{NodesDone, RoundMade, RoundReady, due_count, round_words}
-use Rattle.loops.specs.Settings.{FinderWords, Setting}
+use Rattle.loops.specs.Settings.{Setting}
 use Rattle.loops.proofs.Bits.{mask_none, some_counted}
 use Rattle.loops.proofs.Rounded.{later_rest}
-
--- the finder's words are as they were
-pub finder_still : (m : Kripke) (f : Property) (parents queue parents' queue' : List ℕ) → parents' ≡ parents → queue' ≡ queue → FinderWords m f parents queue → FinderWords m f parents' queue'
-finder_still m f parents queue parents' queue' ep eq words = subst₂ (λ p q. FinderWords m f p q) (sym ep) (sym eq) words
 
 -- Between two rounds of node k: before its first round the words were `was`, `first` of them written. The rounds of all nodes so far and the obligations that are due
 -- are together fewer than the bits up to this node, if there are bits.

@@ -15,3 +15,4 @@ pub mod Closes
 pub mod Stems
 pub mod Joins
 pub mod Traces
+pub mod Found

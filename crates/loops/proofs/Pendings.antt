@@ -1,5 +1,5 @@
 -- The obligations of a node at a vertex, as a loop puts one bit after the other.
-use Rattle.std.proofs.Common.{◌≡◌, ℕ, ◌+◌, ◌*◌, ◌^◌, ◌<◌, Bool, true, false, cond, sym, refl, ap, ◌∙◌, subst, le_refl, pow-suc, add-one, arith}
+use Rattle.std.proofs.Common.{◌≡◌, ℕ, ◌+◌, ◌*◌, ◌^◌, ◌<◌, Bool, true, false, cond, if◌then◌else◌, sym, refl, ap, ◌∙◌, subst, le_refl, pow-suc, add-one, arith}
 use Rattle.kripke.specs.Models.{Kripke}
 use Rattle.masks.specs.Masks.{bit}
 use Rattle.language.specs.Properties.{Property, node_width}
@@ -56,3 +56,11 @@ pending_other f lab K k q all new b so due e is =
 -- the loop's end
 pub pending_all : (f : Property) (lab K k q all : ℕ) → q ≡ node_width f.connectives (node_at f k) → PendingBelow f lab K k q all → PendingOf f lab K k all
 pending_all f lab K k q all e so m u el em = so m u el em ∙ ap (λ n. mask_of n (pending m f u k)) e
+
+-- the mask with a bit put, by whether it was there
+pub put_is : (r m q : ℕ) → r + (if bit m q then 2 ^ q else 0) ≡ m + 2 ^ q → r ≡ cond (bit m q) m (m + 2 ^ q)
+put_is r m q e = put_by (bit m q) r m (2 ^ q) e
+  where
+    put_by : (b : Bool) (r m n : ℕ) → r + (if b then n else 0) ≡ m + n → r ≡ cond b m (m + n)
+    put_by true r m n e = omega arith
+    put_by false r m n e = omega arith

@@ -1,24 +1,13 @@
 -- Room for walks and for what is written of them.
-use Rattle.std.proofs.Common.{◌≡◌, ℕ, ◌+◌, ◌-◌, ◌*◌, ◌<◌, ◌≤◌, List, length, sym, subst, mul-le-mul_right, add-mul, one-mul, arith}
-use Rattle.kripke.specs.Models.{Kripke}
-use Rattle.language.specs.Properties.{Property}
-use Rattle.logic.specs.Product.{mask_width}
-use Rattle.tableau.specs.Numbers.{vertices}
-use Rattle.loops.specs.Settings.{FinderWords}
+use Rattle.std.proofs.Common.{◌≡◌, ℕ, ◌+◌, ◌-◌, ◌*◌, ◌<◌, ◌≤◌, mul-le-mul_right, add-mul, one-mul, arith}
 
 -- a graph of one layer takes no more words than one of e + 1 layers
-one_layer : (e n k : ℕ) → (e + 1) * n ≤ k → n ≤ k
+pub one_layer : (e n k : ℕ) → (e + 1) * n ≤ k → n ≤ k
 one_layer e n k le = omega (arith, add-mul e 1 n, one-mul n)
 
--- the words that a walk of the product is looked for and written in suffice
-pub walk_room : (m : Kripke) (f : Property) (size : ℕ) (parents queue list : List ℕ) → FinderWords m f parents queue → size ≡ vertices m f → vertices m f ≤ length list →
-    (vertices m f ≤ length parents) × (vertices m f ≤ length queue) × (vertices m f ≤ size) × (0 + size ≤ length list)
-walk_room m f size parents queue list finder is fits = (
-  one_layer (mask_width f) (vertices m f) (length parents) finder.parents_room,
-  one_layer (mask_width f) (vertices m f) (length queue) finder.queue_room,
-  omega arith,
-  omega arith,
-)
+-- the words that a walk of the product is written in suffice
+pub walk_room : (n size list : ℕ) → size ≡ n → n ≤ list → (n ≤ size) × (0 + size ≤ list)
+walk_room n size list is fits = (omega arith, omega arith)
 
 -- a product with a vertex has some
 pub some_size : (x n size : ℕ) → x < n → size ≡ n → 0 < size
@@ -57,11 +46,6 @@ close_end n size count at is some few = (omega arith, omega arith, omega arith)
 pub stem_fits : (n size count words : ℕ) → size ≡ n → 0 < count → count ≤ size → n ≤ words →
     (0 + (count - 1) ≤ words) × (count - 1 ≡ 0 + (count - 1)) × (count - 1 < n)
 stem_fits n size count words is some few room = (omega arith, omega arith, omega arith)
-
--- words that are as they were still suffice
-pub finder_same : (m : Kripke) (f : Property) (parents parents' queue queue' : List ℕ) → parents' ≡ parents → queue' ≡ queue → FinderWords m f parents queue →
-    FinderWords m f parents' queue'
-finder_same m f parents parents' queue queue' p q finder = subst (λ l. FinderWords m f l queue') (sym p) (subst (FinderWords m f parents) (sym q) finder)
 
 -- with j of the walks to fair sets written there is room for one more, if there is one more set
 pub visit_room : (n sets at here j words was : ℕ) → at + sets * n ≤ was → words ≡ was → j < sets → here ≤ at + j * n → here + n ≤ words

@@ -4,3 +4,4 @@ pub mod Settings
 pub mod Rounding
 pub mod Visiting
 pub mod Lassos
+pub mod Shapes

@@ -1,7 +1,6 @@
 -- Where a loop is built: what is known of the component, and of the lent words.
-use Rattle.std.specs.Prelude.{ℕ, ◌+◌, ◌*◌, ◌<◌, ◌≤◌, Bool, T, List, length}
+use Rattle.std.specs.Prelude.{ℕ, ◌+◌, ◌*◌, ◌<◌, ◌≤◌, Bool, T, List}
 use Rattle.graphs.specs.Walks.{Reaches}
-use Rattle.graphs.specs.Words.{Clear}
 use Rattle.kripke.specs.Models.{Kripke}
 use Rattle.language.specs.Properties.{Property, WellFormed}
 use Rattle.logic.specs.Product.{mask_width}
@@ -19,13 +18,6 @@ pub record Setting (m : Kripke) (f : Property) (G : ℕ → Bool) (x : ℕ) (ind
   pub vertex : x < vertices m f
   pub joined : MutuallyReachable m f G
   pub tested : Tested m f G x
-
--- the words that the finder of walks works on: enough for the obligation graph, and all zero
-pub record FinderWords (m : Kripke) (f : Property) (parents queue : List ℕ) : Type 0 where
-  pub parents_room : (mask_width f + 1) * vertices m f ≤ length parents
-  pub queue_room : (mask_width f + 1) * vertices m f ≤ length queue
-  pub parents_clear : Clear parents
-  pub queue_clear : Clear queue
 
 -- u is a start vertex at which the root is false, and a walk leads from it to x
 pub record StartVertex (m : Kripke) (f : Property) (u x : ℕ) : Type 0 where

@@ -1,39 +1,33 @@
 //! The loop of the lasso.
-ghost use Rattle.std.specs.Prelude.{◌≡◌, ◌+◌, ◌*◌, ◌≤◌, length};
-ghost use Rattle.graphs.specs.Words.{word};
-ghost use Rattle.logic.specs.Product.{mask_width};
-ghost use Rattle.obligations.specs.Shapes.{index_in, model_in, property_in, set_in};
-ghost use Rattle.obligations.specs.Testing.{Stacked};
+ghost use Rattle.std.specs.Prelude.{◌≡◌, ◌≤◌, length};
+ghost use Rattle.obligations.specs.Shapes.{layered_vertices};
 ghost use Rattle.tableau.specs.Numbers.{vertices};
-ghost use Rattle.loops.specs.Settings.{FinderWords, Setting, loop_words};
-ghost use Rattle.loops.specs.Lassos.{LoopBuilt};
+ghost use Rattle.loops.specs.Settings.{loop_words};
 
-use crate::closing::close;
-use crate::rounds::all_rounds;
-use crate::visiting::visit_all;
-use graphs::Graph;
+use crate::accepted::Accepted;
+use graphs::Finder;
 use models::Model;
-use obligations::Obligations;
 
-// Writes a loop from x: rounds that discharge all obligations, a visit of each fair set, and the way back. Tells how many words it has.
-pub(crate) fn build_loop<'a, 'b, 'c, 'd, M: Model>(
-    o: &Obligations<'a, 'b, 'c, 'd, M>,
-    stack: &[u32],
-    x: u32,
-    parents: &mut [u32],
-    queue: &mut [u32],
-    list: &mut [u32],
-    words: &mut [u32],
-) -> usize
-    requires setting { Setting (model_in M.Graph.states M.Graph.edge M.Model.marking o.now.inside) (property_in o.now.inside) (set_in o.now.inside) x (index_in o.now.inside) }
-    requires finder { FinderWords (model_in M.Graph.states M.Graph.edge M.Model.marking o.now.inside) (property_in o.now.inside) parents.old queue.old }
-    requires stacked { (o.now.inside.top ≤ length stack.now) × Stacked (word stack.now) (word o.now.inside.place.now) o.now.inside.top }
-    requires room { (vertices (model_in M.Graph.states M.Graph.edge M.Model.marking o.now.inside) (property_in o.now.inside) ≤ length list.old) × (loop_words (model_in M.Graph.states M.Graph.edge M.Model.marking o.now.inside) (property_in o.now.inside) ≤ length words.old) }
-    ensures built { LoopBuilt (model_in M.Graph.states M.Graph.edge M.Model.marking o.now.inside) (property_in o.now.inside) x words.old words.new result }
-    ensures parents { parents.new ≡ parents.old }
-    ensures queue { queue.new ≡ queue.old }
-{
-    let at = all_rounds(o, x, parents, queue, words);
-    let stands = visit_all(o, stack, x, at, parents, queue, list, words);
-    close(o, x, stands, parents, queue, list, words)
+impl<'a, M: Model> Accepted<'a, M> {
+    ghost use Rattle.loops.specs.Lassos.{LoopBuilt};
+    ghost use Rattle.loops.specs.Shapes.{SettingAt, model_at, property_at};
+
+    // Writes a loop from x: rounds that discharge all obligations, a visit of each fair set, and the way back. Tells how many words it has.
+    pub(crate) fn build_loop(
+        &self,
+        finder: &mut Finder<'_>,
+        list: &mut [u32],
+        words: &mut [u32],
+    ) -> usize
+        requires setting { SettingAt M.Model self.now }
+        requires finder { layered_vertices (model_at M.Model self.now) (property_at self.now) ≤ finder.old }
+        requires list { vertices (model_at M.Model self.now) (property_at self.now) ≤ length list.old }
+        requires room { loop_words (model_at M.Model self.now) (property_at self.now) ≤ length words.old }
+        ensures built { LoopBuilt (model_at M.Model self.now) (property_at self.now) self.now.x words.old words.new result }
+        ensures finder { finder.new ≡ finder.old }
+    {
+        let at = self.all_rounds(finder, words);
+        let stands = self.visit_all(at, finder, list, words);
+        self.close(stands, finder, list, words)
+    }
 }

@@ -4,7 +4,7 @@ ghost use Rattle.frames.specs.Frames.Node.{apply};
 ghost use Rattle.masks.specs.Masks.{bit};
 ghost use Rattle.language.specs.Properties.{node_width};
 ghost use Rattle.logic.specs.Truth.{node_at};
-ghost use Rattle.models.specs.Markings.{structure};
+ghost use Rattle.models.specs.Markings.{structure_of};
 ghost use Rattle.properties.specs.Meaning.{meaning};
 ghost use Rattle.tableau.specs.Masked.{carried_along};
 ghost use Rattle.tableau.specs.Numbers.{vertices};
@@ -12,11 +12,12 @@ ghost use Rattle.tableau.specs.Rounds.{lowest};
 ghost use Rattle.loops.specs.Carrying.{CarriedOf, PendingOf, vertices_from};
 
 use graphs::Graph;
+use masks::{has, put};
 use models::Model;
 use obligations::due;
 use product::Plan;
 use product::plan::node_width;
-use tableau::masks::{bit_set, image, with_bit};
+use tableau::image::image;
 
 // The obligations of node k at a vertex with this label and mask.
 pub(crate) fn pending(plan: &Plan, label: u16, mask: u32, k: usize) -> u32
@@ -26,7 +27,7 @@ pub(crate) fn pending(plan: &Plan, label: u16, mask: u32, k: usize) -> u32
     let mut all = 0;
     for q in 0..node_width(&plan.property, k) {
         if due(plan, label, mask, k, q) {
-            all = with_bit(all, q as u32);
+            all = put(all, q as u32, true);
         }
     }
     all
@@ -39,7 +40,7 @@ pub(crate) fn lowest(mask: u32, n: u32) -> u32
     ensures low { result < n }
 {
     for r in 0..n {
-        if bit_set(mask, r) {
+        if has(mask, r) {
             return r;
         }
     }
@@ -57,7 +58,7 @@ fn carried(plan: &Plan, label: u16, mask: u32, k: usize, due: u32) -> u32
     for q in 0..states {
         let onward = plan.onward(label, mask, k, q);
         let r = lowest(onward, states as u32);
-        to[q as usize] = if bit_set(finals as u32, r) {
+        to[q as usize] = if has(finals as u32, r) {
             states as u32
         } else {
             r
@@ -76,8 +77,8 @@ pub(crate) fn carry_along<M: Model>(
     due: u32,
 ) -> u32
     requires node { k < plan.now.property.rows.count }
-    requires sizes { (size ≡ vertices (structure (M.Graph.states model.now) (M.Graph.edge model.now) (M.Model.marking model.now)) (meaning plan.now.property)) × (0 < size) }
-    ensures { (c : ℕ) (is : List ℕ) → node_at (meaning plan.now.property) k ≡ apply c is → result ≡ carried_along (structure (M.Graph.states model.now) (M.Graph.edge model.now) (M.Model.marking model.now)) (meaning plan.now.property) k c is (vertices_from (structure (M.Graph.states model.now) (M.Graph.edge model.now) (M.Model.marking model.now)) (meaning plan.now.property) walk.now) due }
+    requires sizes { (size ≡ vertices (structure_of M.Model model.now) (meaning plan.now.property)) × (0 < size) }
+    ensures { (c : ℕ) (is : List ℕ) → node_at (meaning plan.now.property) k ≡ apply c is → result ≡ carried_along (structure_of M.Model model.now) (meaning plan.now.property) k c is (vertices_from (structure_of M.Model model.now) (meaning plan.now.property) walk.now) due }
 {
     let masks = plan.size();
     let mut due = due;

@@ -8,6 +8,7 @@ pub(crate) fn to_states(words: &mut [u32], at: usize, end: usize, size: u32, mas
     requires room { (at ≤ end) × (end ≤ length words.old) }
     ensures { words.new ≡ overwritten at (states_from size masks (take (end - at) (drop at words.old))) words.old }
 {
+    // An index loop: once an `iter_mut` is over, a proof knows how many words there are and not what they hold.
     for i in at..end {
         words[i] = words[i] % size / masks;
     }
@@ -26,7 +27,7 @@ pub(crate) fn copy_states(
     requires room { (count ≤ length list.now) × (at + count ≤ length words.old) }
     ensures { words.new ≡ overwritten at (states_from size masks (take count list.now)) words.old }
 {
-    for i in 0..count {
-        words[at + i] = list[i] % size / masks;
+    for (i, n) in list[..count].iter().enumerate() {
+        words[at + i] = *n % size / masks;
     }
 }

@@ -1,6 +1,7 @@
 //! The loop builder: from a component of the product that passed its test, a fair lasso on which the property is false.
 #![tactic(auto)]
 
+pub mod accepted;
 mod building;
 mod carrying;
 mod closing;
@@ -11,5 +12,5 @@ mod rounds;
 mod routing;
 mod visiting;
 
-pub use lassos::write_lasso;
+pub use accepted::Accepted;
 pub use progress::{Lengths, Progress, Standing};

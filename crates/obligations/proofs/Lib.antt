@@ -9,3 +9,4 @@ pub mod Pending
 pub mod Coming
 pub mod Owning
 pub mod Tested
+pub mod Unapplied

@@ -6,7 +6,7 @@ ghost use Rattle.logic.specs.Truth.{node_at};
 ghost use Rattle.properties.specs.Meaning.{meaning};
 ghost use Rattle.obligations.specs.Dues.{DueOf};
 
-use crate::bits::has;
+use masks::has;
 use product::Plan;
 use properties::Node;
 
@@ -28,13 +28,7 @@ pub fn due(plan: &Plan, label: u16, mask: u32, k: usize, q: u8) -> bool
     let finals = plan.finals(k);
     let row = plan.property.rows.nodes[k];
     match row {
-        Node::Apply {
-            connective: _,
-            arity: _,
-            operands: _,
-        } => open(claimed, finals, q),
-        Node::Next(_) => false,
-        Node::True | Node::Proposition(_) | Node::Not(_) | Node::And(_, _) | Node::Or(_, _) =>
-            false,
+        Node::Apply { .. } => open(claimed, finals, q),
+        _ => false,
     }
 }

@@ -8,55 +8,58 @@ ghost use Rattle.properties.specs.Meaning.{meaning};
 ghost use Rattle.properties.specs.Views.{connective_of};
 ghost use Rattle.obligations.specs.Layers.{arrives, ends_node, finishes};
 
-use crate::bits::has;
+use masks::has;
 use product::Plan;
 use properties::{Connective, Node};
 
-// Whether letter a is true and leads from state q to r.
-fn leads_by(row: &Connective, operands: &[u8; 4], truths: u32, q: u8, r: u8, a: u8) -> bool
-    requires sizes { (row.now.states ≤ 8) × ((row.now.letters ≤ 4) × (Below operands.now row.now.letters 32)) }
-    requires fits { (q < row.now.states) × ((r < row.now.states) × (a < row.now.letters)) }
-    ensures { result ≡ bit truths (slice_index operands.now a) && (connective_of row.now).may q a r }
-{
-    let states = row.moves[4 * q as usize + a as usize];
-    has(truths, operands[a as usize] as u32) && has(states as u32, r as u32)
+// A connective, the operands of its letters, and the nodes that are true.
+#[derive(Clone, Copy)]
+struct Letters {
+    row: Connective,
+    operands: [u8; 4],
+    truths: u32,
+    ghost narrow: { row.states ≤ 8 },
+    ghost short: { row.letters ≤ 4 },
+    ghost low: { Below operands row.letters 32 },
 }
 
-// Whether a true letter leads from state q to r.
-fn arrives(row: &Connective, operands: &[u8; 4], truths: u32, q: u8, r: u8) -> bool
-    requires sizes { (row.now.states ≤ 8) × ((row.now.letters ≤ 4) × (Below operands.now row.now.letters 32)) }
-    requires fits { (q < row.now.states) × (r < row.now.states) }
-    ensures { result ≡ arrives (connective_of row.now) (λ a. bit truths (slice_index operands.now a)) q r }
-{
-    for a in 0..row.letters {
-        if leads_by(row, operands, truths, q, r, a) {
-            return true;
-        }
+impl Letters {
+    // Whether letter a is true and leads from state q to r.
+    fn lead(&self, a: u8, q: u8, r: u8) -> bool
+        requires letter { a < self.now.row.letters }
+        requires from { q < self.now.row.states }
+        requires to { r < self.now.row.states }
+        ensures { result ≡ bit self.now.truths (slice_index self.now.operands a) && (connective_of self.now.row).may q a r }
+    {
+        let states = self.row.moves[4 * q as usize + a as usize];
+        has(self.truths, self.operands[a as usize] as u32) && has(states as u32, r as u32)
     }
-    false
-}
 
-// Whether r is final and a true letter leads there from state q.
-fn ends_at(row: &Connective, operands: &[u8; 4], truths: u32, q: u8, r: u8) -> bool
-    requires sizes { (row.now.states ≤ 8) × ((row.now.letters ≤ 4) × (Below operands.now row.now.letters 32)) }
-    requires fits { (q < row.now.states) × (r < row.now.states) }
-    ensures { result ≡ bit row.now.finals r && arrives (connective_of row.now) (λ a. bit truths (slice_index operands.now a)) q r }
-{
-    has(row.finals as u32, r as u32) && arrives(row, operands, truths, q, r)
-}
-
-// Whether a true letter leads from state q to a final state.
-fn finishes(row: &Connective, operands: &[u8; 4], truths: u32, q: u8) -> bool
-    requires sizes { (row.now.states ≤ 8) × ((row.now.letters ≤ 4) × (Below operands.now row.now.letters 32)) }
-    requires fits { q < row.now.states }
-    ensures { result ≡ finishes (connective_of row.now) (λ a. bit truths (slice_index operands.now a)) q }
-{
-    for r in 0..row.states {
-        if ends_at(row, operands, truths, q, r) {
-            return true;
-        }
+    // Whether a true letter leads from state q to r.
+    fn arrive(&self, q: u8, r: u8) -> bool
+        requires from { q < self.now.row.states }
+        requires to { r < self.now.row.states }
+        ensures { result ≡ arrives (connective_of self.now.row) (λ a. bit self.now.truths (slice_index self.now.operands a)) q r }
+    {
+        (0..self.row.letters).any(|a| self.lead(a, q, r))
     }
-    false
+
+    // Whether r is final and a true letter leads there from state q.
+    fn end_at(&self, q: u8, r: u8) -> bool
+        requires from { q < self.now.row.states }
+        requires to { r < self.now.row.states }
+        ensures { result ≡ bit self.now.row.finals r && arrives (connective_of self.now.row) (λ a. bit self.now.truths (slice_index self.now.operands a)) q r }
+    {
+        has(self.row.finals as u32, r as u32) && self.arrive(q, r)
+    }
+
+    // Whether a true letter leads from state q to a final state.
+    fn finish(&self, q: u8) -> bool
+        requires { q < self.now.row.states }
+        ensures { result ≡ finishes (connective_of self.now.row) (λ a. bit self.now.truths (slice_index self.now.operands a)) q }
+    {
+        (0..self.row.states).any(|r| self.end_at(q, r))
+    }
 }
 
 // Whether state q of node k comes to a final state by a true letter, where the bits of `truths` say which nodes are true.
@@ -68,15 +71,17 @@ pub(crate) fn ends(plan: &Plan, k: usize, q: u8, truths: u32) -> bool
     let row = plan.property.rows.nodes[k];
     match row {
         Node::Apply {
-            connective: c,
-            arity: _,
+            connective,
             operands,
+            ..
         } => {
-            let row = plan.property.rows.connectives[c as usize];
-            finishes(&row, &operands, truths, q)
+            let letters = Letters {
+                row: plan.property.rows.connectives[connective as usize],
+                operands,
+                truths,
+            };
+            letters.finish(q)
         }
-        Node::Next(_) => false,
-        Node::True | Node::Proposition(_) | Node::Not(_) | Node::And(_, _) | Node::Or(_, _) =>
-            false,
+        _ => false,
     }
 }

@@ -2,21 +2,17 @@
 #![tactic(auto)]
 
 pub mod accepting;
-mod bits;
 pub mod dues;
 mod ending;
 pub mod inside;
 mod layering;
 pub mod moves;
-mod moving;
 pub mod obligations;
 pub mod testing;
 pub mod walking;
 
-pub use accepting::accepts;
 pub use dues::due;
-pub use inside::Inside;
+pub use inside::{Inside, Segment};
 pub use moves::Moves;
 pub use obligations::Obligations;
-pub use testing::{fair_vertex, leaves, meets_all};
-pub use walking::{all_walked, bit_walked};
+pub use testing::{Component, leaves};

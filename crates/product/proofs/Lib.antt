@@ -9,3 +9,4 @@ pub mod Following
 pub mod Numbers
 pub mod Edges
 pub mod Going
+pub mod Searching

@@ -1,15 +1,14 @@
 -- The nodes and connectives of a stored property, by its rows.
-use Rattle.std.proofs.Common.{◌≡◌, ℕ, zero, suc, ◌+◌, ◌*◌, ◌<◌, ◌≤◌, Bool, true, ◌&&◌, ltb, ◌⊎◌, List, [], ◌∷◌, length, get_or, take, sym, ap, ◌∙◌, subst, ap₂, inl, inr, le_of_suc-le-suc, not-suc-le-zero, add-zero, zero-add, arith}
+use Rattle.std.proofs.Common.{◌≡◌, ℕ, suc, ◌+◌, ◌<◌, ◌≤◌, Bool, List, length, get_or, take, sym, ap, ◌∙◌, subst, arith}
 use Rattle.std.proofs.lemmas.List.{get_or-map, get_or-take, length-take, length-take-le}
-use Rattle.std.proofs.lemmas.Bool.{and_parts, lt-ltb, ltb-true}
 use Rattle.frames.specs.Frames.{Node}
-use Rattle.frames.specs.Frames.Node.{proposition, negation, both, either, apply, truth}
+use Rattle.frames.specs.Frames.Node.{apply, truth}
 use Rattle.masks.specs.Masks.{bit}
-use Rattle.language.specs.Properties.{Connective, Property, connective_at, node_fits, node_width, nodes_fit}
+use Rattle.language.specs.Properties.{Connective, Property, connective_at, node_width}
 use Rattle.properties.specs.declared.property.Property.{Property as Stored}
 use Rattle.properties.specs.declared.rows.Connective.{Connective as ConnectiveRow}
 use Rattle.properties.specs.declared.rows.Node.{Node as NodeRow}
-use Rattle.properties.specs.declared.rows.Node.TheVariants.{True, Proposition, Not, Next, And, Or, Apply}
+use Rattle.properties.specs.declared.rows.Node.TheVariants.{True, Apply}
 use Rattle.properties.specs.Meaning.{meaning}
 use Rattle.properties.specs.Views.{connective_of, no_row, node_of}
 use Rattle.properties.proofs.Formed.{formed}
@@ -18,29 +17,10 @@ use Rattle.logic.specs.Truth.{node_at}
 use Rattle.logic.specs.Product.{claim_of, mask_of, sat, sat_node, start_of}
 use Rattle.logic.proofs.Fits.{NodeFits, fits_at, start_fits}
 use Rattle.logic.proofs.Masks.{mask_bit}
-use Rattle.logic.proofs.Sat.{sat_unfold}
+use Rattle.logic.proofs.Sat.{claim_same, sat_node_same, sat_unfold}
 use Rattle.logic.proofs.Spread.{start_mono, widths}
 use Rattle.product.specs.Onward.{claimed_node, onward_node, onward_of}
-use Rattle.product.proofs.Same.{claim_same, onward_same, sat_node_same}
-
--- the test of all nodes, the first of which is number n, at one of them
-tests_at : (cs : List Connective) (n : ℕ) (ns : List Node) → nodes_fit cs n ns ≡ true → (k : ℕ) → k < length ns → node_fits cs (n + k) (get_or ns k truth) ≡ true
-tests_at cs n [] h k lt = absurd (not-suc-le-zero lt)
-tests_at cs n (x ∷ ns) h zero lt = ap (λ m. node_fits cs m x) (add-zero n) ∙ (and_parts (node_fits cs n x) (nodes_fit cs (suc n) ns) h).0
-tests_at cs n (x ∷ ns) h (suc k) lt =
-    let sum : n + suc k ≡ suc n + k = omega arith in
-    ap (λ m. node_fits cs m (get_or ns k truth)) sum
-    ∙ tests_at cs (suc n) ns (and_parts (node_fits cs n x) (nodes_fit cs (suc n) ns) h).1 k (le_of_suc-le-suc lt)
-
--- a row goes by its words between its states on its letters
-pub may_is : (c : ConnectiveRow) (q a r : ℕ) → q < c.states → a < c.letters → r < c.states → bit (get_or c.moves (4 * q + a) 0) r ≡ (connective_of c).may q a r
-may_is c q a r lq la lr =
-    sym (ap₂ (λ (x y : Bool). x && (y && (ltb r c.states && bit (get_or c.moves (4 * q + a) 0) r))) (lt-ltb q c.states lq) (lt-ltb a c.letters la)
-    ∙ ap (λ (x : Bool). x && bit (get_or c.moves (4 * q + a) 0) r) (lt-ltb r c.states lr))
-
--- a row of a node that has no bits
-abbrev pub Plain : NodeRow → Type 0
-Plain x = (x ≡ True) ⊎ (((i : ℕ) × (x ≡ Proposition i)) ⊎ (((i : ℕ) × (x ≡ Not i)) ⊎ (((i : ℕ) × (j : ℕ) × (x ≡ And i j)) ⊎ ((i : ℕ) × (j : ℕ) × (x ≡ Or i j)))))
+use Rattle.product.proofs.Same.{onward_same}
 
 module _ (p : Stored) where
   abbrev f : Property
@@ -65,29 +45,11 @@ module _ (p : Stored) where
       let n : length (take p.rows.count p.rows.nodes) ≡ p.rows.count = length-take-le p.rows.count p.rows.nodes (omega arith) in
       get_or-map node_of (take p.rows.count p.rows.nodes) k True truth (omega arith) ∙ ap node_of (get_or-take p.rows.count p.rows.nodes k True lt ∙ e)
 
-  -- what all nodes without bits have, a node has whose row says that it has none
-  pub plain_at : (k : ℕ) → k < p.rows.count → Plain (row k) → (P : Node → Type 0) →
-      P truth → ((i : ℕ) → P (proposition i)) → ((i : ℕ) → P (negation i)) → ((i j : ℕ) → P (both i j)) → ((i j : ℕ) → P (either i j)) → P (node_at f k)
-  plain_at k lt (inl e) P t a n b o = subst P (sym (node_is k lt True e)) t
-  plain_at k lt (inr (inl (i, e))) P t a n b o = subst P (sym (node_is k lt (Proposition i) e)) (a i)
-  plain_at k lt (inr (inr (inl (i, e)))) P t a n b o = subst P (sym (node_is k lt (Not i) e)) (n i)
-  plain_at k lt (inr (inr (inr (inl (i, j, e))))) P t a n b o = subst P (sym (node_is k lt (And i j) e)) (b i j)
-  plain_at k lt (inr (inr (inr (inr (i, j, e))))) P t a n b o = subst P (sym (node_is k lt (Or i j) e)) (o i j)
-
-  -- a row passes the test of its node
-  pub row_tested : (k : ℕ) → k < p.rows.count → (x : NodeRow) → row k ≡ x → node_fits f.connectives k (node_of x) ≡ true
-  row_tested k lt x e =
-      ap₂ (λ (m : ℕ) (y : Node). node_fits f.connectives m y) (sym (zero-add k)) (sym (node_is k lt x e))
-      ∙ tests_at f.connectives 0 f.nodes (formed p).operands_lower k (node_in k lt)
-
   pub node_fit : (k : ℕ) → k < p.rows.count → NodeFits f k (node_at f k)
   node_fit k lt = fits_at f (formed p) k (node_in k lt)
 
   pub row_fit : (k : ℕ) → k < p.rows.count → (x : NodeRow) → row k ≡ x → NodeFits f k (node_of x)
   row_fit k lt x e = subst (λ (y : Node). NodeFits f k y) (node_is k lt x e) (node_fit k lt)
-
-  pub proposition_low : (k : ℕ) → k < p.rows.count → (i : ℕ) → row k ≡ Proposition i → i < 16
-  proposition_low k lt i e = ltb-true i 16 (row_tested k lt (Proposition i) e)
 
   -- the mask has room for the bits of each node
   pub narrow_at : (k : ℕ) → k < p.rows.count → start_of f k + node_width f.connectives (node_at f k) ≤ 12
@@ -96,9 +58,6 @@ module _ (p : Stored) where
       let w = widths f in
       let n = (formed p).narrow in
       omega arith
-
-  pub next_narrow : (k : ℕ) → k < p.rows.count → (i : ℕ) → row k ≡ Next i → start_of f k < 12
-  next_narrow k lt i e = let b : node_width f.connectives (node_at f k) ≡ 1 = ap (node_width f.connectives) (node_is k lt (Next i) e) in let n = narrow_at k lt in omega arith
 
   -- a connective node
   module _ (k : ℕ) (lt : k < p.rows.count) (c arity : ℕ) (is : List ℕ) (e : row k ≡ Apply c arity is) where
@@ -144,11 +103,6 @@ module _ (p : Stored) where
     start_claimed lab truths K o =
         claims_are truths K o (connective c).start
         ∙ ap (claim_of (connective_at f.connectives c) (λ a. bit truths (get_or (take arity is) a 0)) K o) (sym (ap (λ (x : Connective). x.start) connective_is))
-
-  -- what a row says, its node says
-  pub row_says : (lab K k o : ℕ) (g : ℕ → Bool) → k < p.rows.count → o ≡ start_of f k → (x : NodeRow) → row k ≡ x → (b : Bool) →
-      b ≡ sat_node f lab K g o (node_of x) → b ≡ sat_node f lab K g (start_of f k) (node_at f k)
-  row_says lab K k o g lt s x e b h = h ∙ ap₂ (λ (m : ℕ) (y : Node). sat_node f lab K g m y) s (sym (node_is k lt x e))
 
   -- one more node of those that are true
   pub truths_more : (lab K n : ℕ) → n < p.rows.count → (b : Bool) → b ≡ sat_node f lab K (bit (mask_of n (sat f lab K))) (start_of f n) (node_at f n) → b ≡ sat f lab K n

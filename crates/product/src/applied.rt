@@ -1,6 +1,5 @@
 //! A connective node at a vertex.
-ghost use Rattle.std.specs.Prelude.{◌+◌, ◌≤◌};
-ghost use Rattle.product.specs.Starts.{Below};
+ghost use Rattle.std.specs.Prelude.{◌≤◌};
 
 use properties::Connective;
 
@@ -14,6 +13,4 @@ pub(crate) struct Applied {
     pub(crate) mask: u32,
     ghost narrow: { row.states ≤ 8 },
     ghost short: { row.letters ≤ 4 },
-    ghost room: { start + row.states ≤ 12 },
-    ghost low: { Below operands row.letters 32 },
 }

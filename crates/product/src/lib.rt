@@ -3,6 +3,7 @@
 
 mod applied;
 mod bits;
+mod chains;
 mod claiming;
 mod evaluating;
 pub mod indexed;
@@ -10,7 +11,6 @@ pub mod indexing;
 pub mod laws;
 mod owning;
 pub mod plan;
-mod successors;
 
 pub use indexed::Indexed;
 pub use indexing::build;

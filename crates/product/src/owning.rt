@@ -14,11 +14,12 @@ impl Plan {
         requires { i < mask_width (meaning self.now.property) }
         ensures { Owner (meaning self.now.property) i result }
     {
-        let mut k = self.property.rows.count as usize - 1;
-        while self.starts[k] > i {
-            k -= 1;
+        for k in (1..self.property.rows.count as usize).rev() {
+            if self.starts[k] <= i {
+                return k;
+            }
         }
-        k
+        0
     }
 
     // The final states of node k, if it is a connective node.
@@ -26,16 +27,11 @@ impl Plan {
         requires { k < self.now.property.rows.count }
         ensures { result ≡ finals_of (meaning self.now.property) (node_at (meaning self.now.property) k) }
     {
-        let row = self.property.rows.nodes[k];
-        match row {
-            Node::Apply {
-                connective: c,
-                arity: _,
-                operands: _,
-            } => self.property.rows.connectives[c as usize].finals,
-            Node::Next(_) => 0,
-            Node::True | Node::Proposition(_) | Node::Not(_) | Node::And(_, _) | Node::Or(_, _) =>
-                0,
+        match self.property.rows.nodes[k] {
+            Node::Apply { connective, .. } => {
+                self.property.rows.connectives[connective as usize].finals
+            }
+            _ => 0,
         }
     }
 }

@@ -22,15 +22,10 @@ pub fn node_width(property: &Property, k: usize) -> u8
     ensures is { result ≡ node_width (meaning property.now).connectives (node_at (meaning property.now) k) }
     ensures small { result ≤ 8 }
 {
-    let row = property.rows.nodes[k];
-    match row {
+    match property.rows.nodes[k] {
         Node::Next(_) => 1,
-        Node::Apply {
-            connective: c,
-            arity: _,
-            operands: _,
-        } => property.rows.connectives[c as usize].states,
-        Node::True | Node::Proposition(_) | Node::Not(_) | Node::And(_, _) | Node::Or(_, _) => 0,
+        Node::Apply { connective, .. } => property.rows.connectives[connective as usize].states,
+        _ => 0,
     }
 }
 
@@ -41,6 +36,7 @@ impl Plan {
     {
         let mut starts = [0u8; 32];
         let mut at: u8 = 0;
+        // By places: once the loan of iter_mut is over, a proof knows how many numbers there are and not what they are.
         for k in 0..property.rows.count as usize {
             starts[k] = at;
             at += node_width(property, k);

@@ -1,5 +1,5 @@
 -- Lists of rows that grow by one or change in one place, and what is seen of them.
-use Rattle.std.proofs.Common.{◌≡◌, ℕ, zero, suc, ◌+◌, ◌<◌, List, [], ◌∷◌, ◌++◌, map, length, get_or, take, set, refl, ap, ◌∙◌, arith}
+use Rattle.std.proofs.Common.{◌≡◌, ℕ, zero, suc, ◌+◌, ◌<◌, List, [], ◌∷◌, ◌++◌, map, length, take, set, refl, ap, ◌∙◌, arith}
 use Rattle.std.proofs.lemmas.List.{map_push, map-set, take_more_set}
 use Rattle.frames.specs.Frames.{Node}
 use Rattle.language.specs.Properties.{Connective, node_width, width}
@@ -20,14 +20,6 @@ take_set_below (suc n) (x ∷ xs) (suc i) y lt = ap (λ r. x ∷ r) (take_set_be
 -- another row in one place
 pub rows_set : {A B : Type 0} (f : A → B) (n : ℕ) (xs : List A) (i : ℕ) (y : A) → i < n → map f (take n (set xs i y)) ≡ set (map f (take n xs)) i (f y)
 rows_set f n xs i y lt = ap (map f) (take_set_below n xs i y lt) ∙ map-set f (take n xs) i y
-
--- what holds of every row holds after one is replaced by a row of which it holds
-pub set_keeps : {A : Type 0} (P : A → Type 0) (xs : List A) (j : ℕ) (y d : A) → ((i : ℕ) → P (get_or xs i d)) → P y → (i : ℕ) → P (get_or (set xs j y) i d)
-set_keeps P [] j y d h p i = h i
-set_keeps P (x ∷ xs) zero y d h p zero = p
-set_keeps P (x ∷ xs) zero y d h p (suc i) = h (suc i)
-set_keeps P (x ∷ xs) (suc j) y d h p zero = h 0
-set_keeps P (x ∷ xs) (suc j) y d h p (suc i) = set_keeps P xs j y d (λ i. h (suc i)) p i
 
 pub width_push : (cs : List Connective) (ns : List Node) (n : Node) → width cs (ns ++ n ∷ []) ≡ width cs ns + node_width cs n
 width_push cs [] n = let e : node_width cs n + 0 ≡ 0 + node_width cs n = omega arith in e

@@ -61,12 +61,12 @@ may_with ms m n p a r x y z false by bz ex ey ez long lp la lr lm ln =
 
 -- a row whose word of (p, a) is v
 abbrev pub changed : ConnectiveRow → ℕ → ℕ → ConnectiveRow
-changed row w v = record { states = row.states; letters = row.letters; start = row.start; finals = row.finals; moves = set row.moves w v }
+changed row w v = record row { moves = set row.moves w v }
 
-pub row_with : (row : ConnectiveRow) (p a r : ℕ) → 4 * p + a < length row.moves → p < row.states → a < row.letters → r < row.states → row.states ≤ 8 → row.letters ≤ 4 → connective_of (changed row (4 * p + a) (bit_or (get_or row.moves (4 * p + a) 0) (2 ^ r))) ≡ moving p a r (connective_of row)
-row_with row p a r long lp la lr lm ln =
+pub row_with : (row : ConnectiveRow) (p a r : ℕ) → 4 * p + a < length row.moves → p < row.states → a < row.letters → r < row.states → connective_of (changed row (4 * p + a) (bit_or (get_or row.moves (4 * p + a) 0) (2 ^ r))) ≡ moving p a r (connective_of row)
+row_with row p a r long lp la lr =
     let F : (ℕ → ℕ → ℕ → Bool) → Connective = λ may. record { states = row.states; letters = row.letters; start = row.start; finals = row.finals; may = may } in
-    ap F (fun_ext (λ x. fun_ext (λ y. fun_ext (λ z. may_with row.moves row.states row.letters p a r x y z _ _ _ refl refl refl long lp la lr lm ln))))
+    ap F (fun_ext (λ x. fun_ext (λ y. fun_ext (λ z. may_with row.moves row.states row.letters p a r x y z _ _ _ refl refl refl long lp la lr row.few_states row.few_letters))))
 
 -- the latest row in use, replaced by one with one more transition
 pub latest_with : (rows : List ConnectiveRow) (used p a r : ℕ) (row : ConnectiveRow) → 0 < used → used ≤ length rows → connective_of row ≡ moving p a r (connective_of (get_or rows (used - 1) no_row)) → connectives_of (set rows (used - 1) row) used ≡ set (connectives_of rows used) (used - 1) (moving p a r (connective_at (connectives_of rows used) (used - 1)))

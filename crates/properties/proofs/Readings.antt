@@ -1,10 +1,10 @@
 -- Reading on from a line: what each way through the loop gives.
-use Rattle.std.proofs.Common.{◌≡◌, ℕ, suc, ◌+◌, ◌<◌, ◌≤◌, cond, leb, List, [], ◌∷◌, length, drop, Ok, Err, Result, sym, ap, ◌∙◌, subst, add-one, arith}
+use Rattle.std.proofs.Common.{◌≡◌, ℕ, suc, ◌+◌, ◌<◌, ◌≤◌, leb, List, [], ◌∷◌, length, drop, Ok, Err, Result, sym, ap, ◌∙◌, subst, add-one, arith}
 use Rattle.std.proofs.lemmas.List.{drop_all, drop-drop, length-drop}
 use Rattle.std.proofs.lemmas.Bool.{cond-false, lt-leb}
 use Rattle.frames.specs.declared.faults.FrameFault.{FrameFault}
 use Rattle.frames.specs.declared.faults.Refusal.{Refusal}
-use Rattle.frames.specs.declared.faults.Refusal.TheVariants.{Frame as Framed, Limit, Order}
+use Rattle.frames.specs.declared.faults.Refusal.TheVariants.{Frame as Framed, Limit}
 use Rattle.frames.specs.Frames.{Frame, first_frame}
 use Rattle.frames.specs.Lines.{cut}
 use Rattle.frames.proofs.Cuts.{rest_all}
@@ -12,8 +12,10 @@ use Rattle.frames.proofs.Framing.{Framed as Read, Faulty, faulty_first, framed_f
 use Rattle.frames.proofs.Framing.Faulty.{open_line, bad_line}
 use Rattle.language.specs.Laws.{Decided}
 use Rattle.language.specs.Properties.{Property}
-use Rattle.language.specs.Reading.{Draft, finished, lines_read, onward, property, read, taken, taken_frame}
+use Rattle.language.specs.Reading.{Draft, finished, lines_read, onward, read, taken, taken_frame}
 use Rattle.language.proofs.Deciding.{decides}
+use Rattle.properties.specs.declared.drafts.Draft.{Draft as DraftRows}
+use Rattle.properties.specs.Meaning.{of_draft}
 
 pub decided_by : (text : List ℕ) (r : Result Property Refusal) → r ≡ read text → Decided text r
 decided_by text r e = subst (Decided text) (sym e) (decides text)
@@ -68,5 +70,5 @@ pub frame_refused : (n : ℕ) (d : Draft) (t : List ℕ) (fault : FrameFault) �
 frame_refused n d t fault lt e = faulty_on n d t fault lt (faulty_first n t fault e)
 
 -- nothing is left
-pub all_read : (n : ℕ) (d : Draft) (at : ℕ) (text : List ℕ) → length text ≤ at → read_on n d (drop at text) ≡ cond d.ended (Ok (property d)) (Err (Order n))
-all_read n d at text le = ap (read_on n d) (drop_all at text le)
+pub all_read : (n at : ℕ) (text : List ℕ) → length text ≤ at → {d e : DraftRows} → d ≡ e → read_on n (of_draft d) (drop at text) ≡ finished n (of_draft e) []
+all_read n at text le {d} {e} is = ap (read_on n (of_draft d)) (drop_all at text le) ∙ ap (λ x. finished n (of_draft x) []) is

@@ -1,46 +1,24 @@
 -- Texts of lines, and what is written one after the other.
-use Rattle.std.proofs.Common.{◌≡◌, ℕ, ◌+◌, ◌*◌, ◌/◌, ◌%◌, ◌^◌, ◌<◌, Bool, cond, ◌&&◌, ltb, List, [], ◌∷◌, ◌++◌, length, get_or, take, sym, refl, ap, ◌∙◌, ap₂, add-one, arith}
+use Rattle.std.proofs.Common.{◌≡◌, ℕ, ◌+◌, ◌*◌, ◌/◌, ◌%◌, ◌^◌, ◌<◌, Bool, cond, ◌&&◌, ltb, List, [], ◌∷◌, ◌++◌, length, get_or, take, sym, refl, ap, ◌∙◌, add-one}
 use lib.Bits.{bit_and, and_mask}
-use Rattle.std.proofs.lemmas.List.{append_assoc, length-append, take_more}
+use Rattle.std.proofs.lemmas.List.{append_assoc, take_more}
 use Rattle.std.proofs.lemmas.Bool.{eq-eqb, lt-ltb, ne_eqb}
-use Rattle.frames.specs.Areas.{written}
 use Rattle.frames.specs.Digits.{hexadecimal}
-use Rattle.frames.proofs.Written.{written_append}
+use Rattle.frames.specs.Writers.{Writes}
+use Rattle.frames.specs.declared.writers.Writer.{Writer}
+use Rattle.frames.proofs.Written.{writes_as, writes_both}
 use Rattle.language.specs.Canonical.{each, spelled, text_of, transition_line}
 use Rattle.masks.specs.Masks.{bit}
 use Rattle.properties.specs.declared.rows.Connective.{Connective as ConnectiveRow}
 use Rattle.properties.specs.Views.{connective_of}
-
--- bytes were written from the place `at` on, to the place `end`
-pub record Wrote (old new : List ℕ) (at end : ℕ) (text : List ℕ) : Type 0 where
-  pub area : new ≡ written old at text
-  pub next : end ≡ at + length text
-
--- some bytes, and then others
-pub both_wrote : {area first after : List ℕ} {at place end : ℕ} {xs ys : List ℕ} → Wrote area first at place xs → Wrote first after place end ys → Wrote area after at end (xs ++ ys)
-both_wrote {area} {first} {after} {at} {place} {end} {xs} {ys} v w =
-    let l = length-append xs ys in
-    record {
-      area = w.area ∙ ap₂ (λ (t : List ℕ) (k : ℕ). written t k ys) v.area v.next ∙ written_append area at xs ys;
-      next = omega arith;
-    }
-
--- the same bytes under another name
-pub wrote_as : {area after : List ℕ} {at end : ℕ} {xs ys : List ℕ} → xs ≡ ys → Wrote area after at end xs → Wrote area after at end ys
-wrote_as {area} {after} {at} {end} {xs} {ys} e w =
-    record { area = w.area ∙ ap (written area at) e; next = w.next ∙ ap (λ (t : List ℕ). at + length t) e }
-
--- nothing was written yet
-pub none_wrote : (area : List ℕ) (at : ℕ) → Wrote area area at at []
-none_wrote area at = record { area = refl; next = omega arith }
 
 pub text_append : (xs ys : List (List ℕ)) → text_of (xs ++ ys) ≡ text_of xs ++ text_of ys
 text_append [] ys = refl
 text_append (x ∷ xs) ys = ap (λ t. spelled x ++ 10 ∷ t) (text_append xs ys) ∙ sym (append_assoc (spelled x) (10 ∷ text_of xs) (text_of ys))
 
 -- some lines, and then others
-pub lines_wrote : {area first after : List ℕ} {at place end : ℕ} (xs ys zs : List (List ℕ)) → xs ++ ys ≡ zs → Wrote area first at place (text_of xs) → Wrote first after place end (text_of ys) → Wrote area after at end (text_of zs)
-lines_wrote xs ys zs e v w = wrote_as (sym (text_append xs ys) ∙ ap text_of e) (both_wrote v w)
+pub writes_lines : {a b c : Writer} (xs ys zs : List (List ℕ)) → xs ++ ys ≡ zs → Writes a b (text_of xs) → Writes b c (text_of ys) → Writes a c (text_of zs)
+writes_lines xs ys zs e f g = writes_as (sym (text_append xs ys) ∙ ap text_of e) (writes_both f g)
 
 spelled_append : (xs ys : List ℕ) → spelled (xs ++ ys) ≡ spelled xs ++ spelled ys
 spelled_append [] ys = refl
@@ -54,8 +32,8 @@ pub each_more : {A : Type 0} (n : ℕ) (f : ℕ → List A) → each n f ++ f n 
 each_more n f = sym (ap (λ k. each k f) (add-one n))
 
 -- all values were written
-pub each_wrote : {area after : List ℕ} {at end : ℕ} (m n : ℕ) (f : ℕ → List (List ℕ)) → m ≡ n → Wrote area after at end (text_of (each m f)) → Wrote area after at end (text_of (each n f))
-each_wrote m n f e w = wrote_as (ap (λ k. text_of (each k f)) e) w
+pub writes_each : {a b : Writer} (m n : ℕ) (f : ℕ → List (List ℕ)) → m ≡ n → Writes a b (text_of (each m f)) → Writes a b (text_of (each n f))
+writes_each m n f e w = writes_as (ap (λ k. text_of (each k f)) e) w
 
 -- in range, a connective may go where the bit of its word is set
 transition_is : (row : ConnectiveRow) (p a r : ℕ) → p < row.states → a < row.letters → r < row.states → transition_line (connective_of row) p a r ≡ cond (bit (get_or row.moves (4 * p + a) 0) r) ((0x11 ∷ p ∷ a ∷ r ∷ []) ∷ []) []

@@ -1,17 +1,19 @@
 -- What rows show of a draft, and the four ways a frame can be judged.
-use Rattle.std.proofs.Common.{◌≡◌, ℕ, zero, suc, ◌+◌, ◌-◌, ◌*◌, ◌%◌, ◌^◌, ◌<◌, ◌≤◌, Bool, true, false, not, ◌&&◌, eqb, ltb, leb, ◌⊎◌, List, [], ◌∷◌, ◌++◌, length, get_or, take, drop, replicate, Ok, Err, sym, refl, ap, ◌∙◌, ap₂, inl, inr, ⊎_elim, arith}
+use Rattle.std.proofs.Common.{◌≡◌, ℕ, zero, suc, ◌+◌, ◌-◌, ◌*◌, ◌%◌, ◌^◌, ◌<◌, ◌≤◌, Bool, true, false, not, ◌&&◌, eqb, ltb, leb, ◌⊎◌, List, [], ◌∷◌, ◌++◌, length, get_or, take, replicate, Ok, Err, sym, refl, ap, ◌∙◌, ap₂, inl, inr, ⊎_elim, arith}
 use mathlib.Core.Path.{fun_ext}
 use native.Mathlib.Nat.{zero-div}
-use Rattle.std.proofs.lemmas.List.{get_or-map, get_or_past, get_or-take, length-map, length-take, length-take-le, take_all, at_drop_more, at_drop_all}
+use Rattle.std.proofs.lemmas.List.{get_or_default, get_or-map, get_or_past, get_or-take, length-map, length-take-le}
 use Rattle.std.proofs.lemmas.Bool.{and_from, and_left, and_right, cases_lt, cond-false, cond-true, eq-eqb, le-leb, le-ltb, lt-ltb, ne_eqb, not_from_false, not_from_true}
 use Rattle.frames.specs.declared.faults.Refusal.TheVariants.{Order, Value, Limit}
 use Rattle.frames.specs.Frames.{Frame, Node}
 use Rattle.frames.specs.Frames.Node.{apply}
+use Rattle.frames.specs.Frames.Frame.{connective, transition, node, end}
 use Rattle.masks.specs.Masks.{bit}
 use Rattle.language.specs.Properties.{Connective, Property, all_below, connective_at, idle, node_fits, node_width, width, WellFormed}
 use Rattle.language.specs.Reading.{Draft, extended, in_order, in_range, is_empty, latest, taken, within_limits}
-use Rattle.properties.specs.declared.drafts.Draft.{Draft as DraftRows}
-use Rattle.properties.specs.declared.rows.Rows.{Rows}
+use Rattle.properties.specs.declared.drafts.Draft.TheVariants.{Open, Ended}
+use Rattle.properties.specs.declared.arrays.Rows.{Rows}
+use Rattle.properties.specs.declared.rows.Connective.{Connective as ConnectiveRow}
 use Rattle.properties.specs.Meaning.{of_draft, of_rows}
 use Rattle.properties.specs.Views.{connective_of, fits, no_row, node_of}
 use Rattle.properties.proofs.Growing.{width_push}
@@ -60,6 +62,10 @@ connective_in r c lt =
     let n = length-take-le r.used r.connectives (omega (arith, r.four, r.few_connectives)) in
     get_or-map connective_of (take r.used r.connectives) c no_row (idle 0 0 0 0) (omega arith) ∙ ap connective_of (get_or-take r.used r.connectives c no_row lt)
 
+-- the same, as the code reads it
+pub connective_read : (r : Rows) (c : ℕ) (row : ConnectiveRow) → c < r.used → connective_at (of_rows r).connectives c ≡ connective_of (get_or r.connectives c row)
+connective_read r c row lt = connective_in r c lt ∙ ap connective_of (get_or_default r.connectives c no_row row (omega (arith, r.four, r.few_connectives)))
+
 -- and one that is not
 pub connective_out : (r : Rows) (c : ℕ) → r.used ≤ c → connective_at (of_rows r).connectives c ≡ idle 0 0 0 0
 connective_out r c le = let n = length_connectives r in get_or_past (of_rows r).connectives c (idle 0 0 0 0) (omega arith)
@@ -80,16 +86,6 @@ applies_other r c k is lt ne = sym (applies_in r c k is lt ∙ and_left _ _ (ne_
 pub applies_by : (r : Rows) (c k : ℕ) (is : List ℕ) (b : Bool) → c < r.used → length is ≡ (get_or r.connectives c no_row).letters → b ≡ all_below k is → b ≡ node_fits (of_rows r).connectives k (apply c is)
 applies_by r c k is b lt e h = h ∙ sym (applies_in r c k is lt ∙ ap (λ t. t && all_below k is) (eq-eqb _ _ e))
 
--- the loop over the operands that are in use
-pub lower_stop : (k i : ℕ) (xs : List ℕ) → i < length xs → k ≤ get_or xs i 0 → all_below k (drop i xs) ≡ all_below k xs → false ≡ all_below k xs
-lower_stop k i xs lt le inv = sym (sym inv ∙ at_drop_more (all_below k) xs i 0 lt ∙ and_left _ _ (le-ltb (get_or xs i 0) k le))
-
-pub lower_more : (k i : ℕ) (xs : List ℕ) → i < length xs → get_or xs i 0 < k → all_below k (drop i xs) ≡ all_below k xs → all_below k (drop (i + 1) xs) ≡ all_below k xs
-lower_more k i xs lt l inv = sym (ap (λ b. b && all_below k (drop (i + 1) xs)) (lt-ltb (get_or xs i 0) k l)) ∙ sym (at_drop_more (all_below k) xs i 0 lt) ∙ inv
-
-pub lower_all : (k i : ℕ) (xs : List ℕ) → length xs ≤ i → all_below k (drop i xs) ≡ all_below k xs → true ≡ all_below k xs
-lower_all k i xs le inv = sym (at_drop_all (all_below k) xs i le) ∙ inv
-
 zero_word : (n i : ℕ) → ◌≡◌ {A = ℕ} (get_or (replicate n 0) i 0) 0
 zero_word zero i = refl
 zero_word (suc n) zero = refl
@@ -102,49 +98,36 @@ and_never true false d e h = refl
 and_never false c d e h = refl
 
 -- a row without transitions
-pub idle_row : (m n q f : ℕ) → connective_of (record { states = m; letters = n; start = q; finals = f; moves = replicate 32 0 }) ≡ idle m n q f
+pub idle_row : (m n q f : ℕ) → ◌≡◌ {A = Connective} (record { states = m; letters = n; start = q; finals = f; may = λ p a r. ltb p m && (ltb a n && (ltb r m && bit (get_or (replicate 32 0) (4 * p + a) 0) r)) }) (idle m n q f)
 idle_row m n q f =
     let F : (ℕ → ℕ → ℕ → Bool) → Connective = λ may. record { states = m; letters = n; start = q; finals = f; may = may } in
     let clear : (i r : ℕ) → bit (get_or (replicate 32 0) i 0) r ≡ false = λ i r. ap (λ w. bit w r) (zero_word 32 i) ∙ ap (λ v. eqb (v % 2) 1) (zero-div (2 ^ r)) in
     ap F (fun_ext (λ p. fun_ext (λ a. fun_ext (λ r. and_never (ltb p m) (ltb a n) (ltb r m) (bit (get_or (replicate 32 0) (4 * p + a) 0) r) (clear (4 * p + a) r)))))
 
--- a draft whose rows are known
-pub draft_with : (rows : Rows) (b e : Bool) (p : Property) → of_rows rows ≡ p → b ≡ e → of_draft (record { rows = rows; ended = b }) ≡ record { connectives = p.connectives; nodes = p.nodes; ended = e }
-draft_with rows b e p is same = ap₂ (λ (x : Property) (t : Bool). record { connectives = x.connectives; nodes = x.nodes; ended = t }) is same
+-- an open draft whose rows are known
+pub draft_with : (rows : Rows) (p : Property) → of_rows rows ≡ p → of_draft (Open rows) ≡ record { connectives = p.connectives; nodes = p.nodes; ended = false }
+draft_with rows p is = ap (λ (x : Property). record { connectives = x.connectives; nodes = x.nodes; ended = false }) is
 
--- the bytes at hand are all that there are
-pub all_at_hand : (xs ys : List ℕ) → xs ≡ take 7 ys → length xs ≤ 4 → xs ≡ ys
-all_at_hand xs ys e le = let n = ap length e ∙ length-take 7 ys in e ∙ take_all 7 ys (omega arith)
+-- nothing stands after the end
+pub ended_late : (n : ℕ) (r : Rows) (f : Frame) → Err (Order n) ≡ taken n (of_draft (Ended r)) f
+ended_late n r (connective states letters start finals) = refl
+ended_late n r (transition p a q) = refl
+ended_late n r (node x) = refl
+ended_late n r end = refl
 
--- the orders of a draft, by the rows
-before_nodes : (e b : Bool) → e ≡ false → b ≡ true → (not e && b) ≡ true
-before_nodes e b p q = and_from _ _ (not_from_false e p) q
+-- the order of a transition, by the rows
+pub move_order : (r : Rows) → r.count ≤ 0 → (r.used ≡ 0 → ⊥) → (is_empty (of_rows r).nodes && not (is_empty (of_rows r).connectives)) ≡ true
+move_order r le ne = and_from _ _ (no_nodes r (omega arith)) (not_from_false _ (some_connectives r (omega arith)))
 
-pub head_order : (d : DraftRows) → d.ended ≡ false → d.rows.count ≤ 0 → (not d.ended && is_empty (of_rows d.rows).nodes) ≡ true
-head_order d e le = before_nodes d.ended _ e (no_nodes d.rows (omega arith))
+pub move_late : (r : Rows) → 0 < r.count → (is_empty (of_rows r).nodes && not (is_empty (of_rows r).connectives)) ≡ false
+move_late r lt = and_left _ _ (some_nodes r lt)
 
-pub head_ended : (d : DraftRows) (b : Bool) → d.ended ≡ true → (not d.ended && b) ≡ false
-head_ended d b e = and_left _ _ (not_from_true d.ended e)
+pub move_early : (r : Rows) → r.used ≡ 0 → (is_empty (of_rows r).nodes && not (is_empty (of_rows r).connectives)) ≡ false
+move_early r e = and_right (is_empty (of_rows r).nodes) (not (is_empty (of_rows r).connectives)) (not_from_true _ (no_connectives r e))
 
-pub head_late : (d : DraftRows) → 0 < d.rows.count → (not d.ended && is_empty (of_rows d.rows).nodes) ≡ false
-head_late d lt = and_right _ _ (some_nodes d.rows lt)
-
-pub move_order : (d : DraftRows) → d.ended ≡ false → d.rows.count ≤ 0 → (d.rows.used ≡ 0 → ⊥) → (not d.ended && (is_empty (of_rows d.rows).nodes && not (is_empty (of_rows d.rows).connectives))) ≡ true
-move_order d e le ne = before_nodes d.ended _ e (and_from _ _ (no_nodes d.rows (omega arith)) (not_from_false _ (some_connectives d.rows (omega arith))))
-
-pub move_late : (d : DraftRows) → 0 < d.rows.count → (not d.ended && (is_empty (of_rows d.rows).nodes && not (is_empty (of_rows d.rows).connectives))) ≡ false
-move_late d lt = and_right _ _ (and_left _ _ (some_nodes d.rows lt))
-
-pub move_early : (d : DraftRows) → d.rows.used ≡ 0 → (not d.ended && (is_empty (of_rows d.rows).nodes && not (is_empty (of_rows d.rows).connectives))) ≡ false
-move_early d e =
-    and_right (not d.ended) (is_empty (of_rows d.rows).nodes && not (is_empty (of_rows d.rows).connectives))
-    (and_right (is_empty (of_rows d.rows).nodes) (not (is_empty (of_rows d.rows).connectives)) (not_from_true _ (no_connectives d.rows e)))
-
-pub end_order : (d : DraftRows) → d.ended ≡ false → (d.rows.count ≡ 0 → ⊥) → (not d.ended && not (is_empty (of_rows d.rows).nodes)) ≡ true
-end_order d e ne = before_nodes d.ended _ e (not_from_false _ (some_nodes d.rows (omega arith)))
-
-pub end_early : (d : DraftRows) → d.rows.count ≡ 0 → (not d.ended && not (is_empty (of_rows d.rows).nodes)) ≡ false
-end_early d e = and_right _ _ (not_from_true _ (no_nodes d.rows e))
+-- the row of the latest connective, as the code reads it
+pub latest_at : (r : Rows) (row : ConnectiveRow) → (r.used ≡ 0 → ⊥) → get_or r.connectives (r.used - 1) row ≡ get_or r.connectives (r.used - 1) no_row
+latest_at r row ne = get_or_default r.connectives (r.used - 1) row no_row (omega (arith, r.four, r.few_connectives))
 
 -- the latest connective, by the rows
 pub latest_row : (r : Rows) → (r.used ≡ 0 → ⊥) → latest (of_rows r).connectives ≡ connective_of (get_or r.connectives (r.used - 1) no_row)
@@ -173,7 +156,7 @@ node_limits r n w e =
 -- no connective has more than four letters
 pub crowded : (r : Rows) (c k : ℕ) (is : List ℕ) → 4 < length is → false ≡ node_fits (of_rows r).connectives k (apply c is)
 crowded r c k is lt = ⊎_elim
-    (λ l. applies_other r c k is l (λ e. let f = r.few_letters c in omega arith))
+    (λ l. applies_other r c k is l (λ e. let f = (get_or r.connectives c no_row).few_letters in omega arith))
     (λ g. applies_out r c k is g)
     (cases_lt c r.used)
 

@@ -1,10 +1,11 @@
 -- The property that rows, a draft and a stored property stand for.
-use Rattle.std.specs.Prelude.{Ok, Err, Result}
+use Rattle.std.specs.Prelude.{false, true, Ok, Err, Result}
 use Rattle.frames.specs.declared.faults.Refusal.{Refusal}
 use Rattle.language.specs.Properties.{Property}
 use Rattle.language.specs.Reading.{Draft}
-use Rattle.properties.specs.declared.rows.Rows.{Rows}
+use Rattle.properties.specs.declared.arrays.Rows.{Rows}
 use Rattle.properties.specs.declared.drafts.Draft.{Draft as DraftRows}
+use Rattle.properties.specs.declared.drafts.Draft.TheVariants.{Open, Ended}
 use Rattle.properties.specs.declared.property.Property.{Property as Stored}
 use Rattle.properties.specs.Views.{connectives_of, nodes_of}
 
@@ -12,7 +13,8 @@ abbrev pub of_rows : Rows → Property
 of_rows r = record { connectives = connectives_of r.connectives r.used; nodes = nodes_of r.nodes r.count }
 
 abbrev pub of_draft : DraftRows → Draft
-of_draft d = record { connectives = (of_rows d.rows).connectives; nodes = (of_rows d.rows).nodes; ended = d.ended }
+of_draft (Open r) = record { connectives = (of_rows r).connectives; nodes = (of_rows r).nodes; ended = false }
+of_draft (Ended r) = record { connectives = (of_rows r).connectives; nodes = (of_rows r).nodes; ended = true }
 
 abbrev pub meaning : Stored → Property
 meaning p = of_rows p.rows

@@ -1,5 +1,6 @@
 -- The property that rows stand for, part by part.
-use Rattle.std.specs.Prelude.{ℕ, ◌+◌, ◌*◌, ◌≤◌, Bool, ◌&&◌, List, [], map, take, nat_le, nat_lt, slice_index, slice_index_or}
+use Rattle.std.specs.Prelude.{ℕ, ◌+◌, ◌*◌, Bool, ◌&&◌, List, [], map, take, nat_le, nat_lt, slice_index}
+use Rattle.std.proofs.Common.{lit≤}
 use Rattle.frames.specs.Frames.{Node}
 use Rattle.frames.specs.Frames.Node.{proposition, negation, next, both, either, apply, truth}
 use Rattle.masks.specs.Masks.{bit}
@@ -10,7 +11,7 @@ use Rattle.properties.specs.declared.rows.Node.TheVariants.{True, Proposition, N
 
 -- a row that stands for nothing
 abbrev pub no_row : ConnectiveRow
-no_row = record { states = 0; letters = 0; start = 0; finals = 0; moves = [] }
+no_row = record { states = 0; letters = 0; start = 0; finals = 0; moves = []; few_states = lit≤ tt; few_letters = lit≤ tt }
 
 -- the word 4 p + a of a connective is the mask of the states that p may go to on a
 abbrev pub connective_of : ConnectiveRow → Connective
@@ -38,13 +39,6 @@ connectives_of rows used = map connective_of (take used rows)
 
 abbrev pub nodes_of : List NodeRow → ℕ → List Node
 nodes_of rows count = map node_of (take count rows)
-
--- each row of a connective has at most 8 states and 4 letters
-abbrev pub FewStates : List ConnectiveRow → Type 0
-FewStates rows = (c : ℕ) → (slice_index_or rows c no_row).states ≤ 8
-
-abbrev pub FewLetters : List ConnectiveRow → Type 0
-FewLetters rows = (c : ℕ) → (slice_index_or rows c no_row).letters ≤ 4
 
 abbrev pub width_of : List ConnectiveRow → ℕ → List NodeRow → ℕ → ℕ
 width_of connectives used nodes count = width (connectives_of connectives used) (nodes_of nodes count)

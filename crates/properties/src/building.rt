@@ -5,25 +5,19 @@ ghost use Rattle.language.specs.Reading.{moving};
 ghost use Rattle.properties.specs.Meaning.{of_rows};
 ghost use Rattle.properties.specs.Views.{connective_of, no_row, node_of};
 
-use crate::rows::{Connective, Node, Rows};
+use crate::arrays::Rows;
+use crate::rows::{Connective, Node};
 
 impl Connective {
     // The same connective, where state p on letter a may go to r too.
     fn with_bit(self, p: u8, a: u8, r: u8) -> Connective
-        requires range { (p < self.states) × ((a < self.letters) × ((r < self.states) × ((self.states ≤ 8) × (self.letters ≤ 4)))) }
+        requires range { (p < self.states) × ((a < self.letters) × (r < self.states)) }
         ensures moves { connective_of result ≡ moving p a r (connective_of self) }
         ensures size { (result.states ≡ self.states) × (result.letters ≡ self.letters) }
     {
-        let word = 4 * p as usize + a as usize;
-        let mut moves = self.moves;
-        moves[word] = moves[word] | (1 << r);
-        Connective {
-            states: self.states,
-            letters: self.letters,
-            start: self.start,
-            finals: self.finals,
-            moves,
-        }
+        let mut row = self;
+        row.moves[4 * p as usize + a as usize] |= 1 << r;
+        row
     }
 }
 
@@ -51,18 +45,12 @@ impl Rows {
     // One connective more, before there is a node.
     pub(crate) fn with_connective(&self, row: Connective) -> Rows
         requires room { (self.now.used < 4) × (self.now.count ≡ 0) }
-        requires small { (row.states ≤ 8) × (row.letters ≤ 4) }
         ensures { of_rows result ≡ record { connectives = (of_rows self.now).connectives ++ connective_of row ∷ []; nodes = (of_rows self.now).nodes } }
     {
-        let mut connectives = self.connectives;
-        connectives[self.used as usize] = row;
-        Rows {
-            connectives,
-            used: self.used + 1,
-            nodes: self.nodes,
-            count: self.count,
-            width: self.width,
-        }
+        let mut rows = *self;
+        rows.connectives[self.used as usize] = row;
+        rows.used += 1;
+        rows
     }
 
     // One transition more of the latest connective, before there is a node.
@@ -72,16 +60,9 @@ impl Rows {
         ensures { of_rows result ≡ record { connectives = slice_set (of_rows self.now).connectives (self.now.used - 1) (moving p a r (connective_at (of_rows self.now).connectives (self.now.used - 1))); nodes = (of_rows self.now).nodes } }
     {
         let latest = self.used as usize - 1;
-        let mut connectives = self.connectives;
-        let row = connectives[latest];
-        connectives[latest] = row.with_bit(p, a, r);
-        Rows {
-            connectives,
-            used: self.used,
-            nodes: self.nodes,
-            count: self.count,
-            width: self.width,
-        }
+        let mut rows = *self;
+        rows.connectives[latest] = self.connectives[latest].with_bit(p, a, r);
+        rows
     }
 
     // One node more, with the width that the nodes then have.
@@ -90,14 +71,10 @@ impl Rows {
         requires wide { (width ≡ self.now.width + node_width (of_rows self.now).connectives (node_of row)) × (width ≤ 12) }
         ensures { of_rows result ≡ record { connectives = (of_rows self.now).connectives; nodes = (of_rows self.now).nodes ++ node_of row ∷ [] } }
     {
-        let mut nodes = self.nodes;
-        nodes[self.count as usize] = row;
-        Rows {
-            connectives: self.connectives,
-            used: self.used,
-            nodes,
-            count: self.count + 1,
-            width,
-        }
+        let mut rows = *self;
+        rows.nodes[self.count as usize] = row;
+        rows.count += 1;
+        rows.width = width;
+        rows
     }
 }

@@ -1,9 +1,10 @@
 //! What the lines of a text have said so far.
-use crate::rows::Rows;
+use crate::arrays::Rows;
 
 #[derive(Clone, Copy)]
-pub struct Draft {
-    pub rows: Rows,
+pub enum Draft {
+    // more lines may follow
+    Open(Rows),
     // the end line was read
-    pub ended: bool,
+    Ended(Rows),
 }

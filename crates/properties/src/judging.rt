@@ -9,8 +9,9 @@ ghost use Rattle.language.specs.Reading.{blank, taken};
 ghost use Rattle.properties.specs.Meaning.{drafted, of_draft, of_rows};
 ghost use Rattle.properties.specs.Views.{node_of};
 
+use crate::arrays::Rows;
 use crate::drafts::Draft;
-use crate::rows::{Connective, Node, Rows};
+use crate::rows::{Connective, Node};
 use frames::{Bytes, Frame, Refusal};
 
 // Whether the numbers of a connective are in range.
@@ -20,30 +21,21 @@ fn in_range(m: u8, n: u8, q: u8, f: u8) -> bool
     1 <= m && m <= 8 && 1 <= n && n <= 4 && q < m && (f as u32) < 1 << m
 }
 
-// Whether the first `arity` operands are lower than k.
-fn lower(operands: [u8; 4], arity: u8, k: u8) -> bool
-    ensures { result ≡ all_below k (take arity operands) }
+// Whether all operands are lower than k.
+fn lower(operands: &[u8], k: u8) -> bool
+    ensures { result ≡ all_below k operands.now }
 {
-    for i in 0..arity.min(4) as usize {
-        if operands[i] >= k {
-            return false;
-        }
-    }
-    true
+    operands.iter().all(|i| *i < k)
 }
 
 impl Rows {
     // Whether a connective node may stand as the next one: it has an operand for each letter, and all are lower.
-    fn applies(&self, c: u8, arity: u8, operands: [u8; 4]) -> bool
-        ensures { result ≡ node_fits (of_rows self.now).connectives self.now.count (apply c (take arity operands)) }
+    fn applies(&self, c: u8, operands: &[u8]) -> bool
+        ensures { result ≡ node_fits (of_rows self.now).connectives self.now.count (apply c operands.now) }
     {
-        if c >= self.used {
-            return false;
-        }
-        if arity.min(4) != self.connectives[c as usize].letters {
-            return false;
-        }
-        lower(operands, arity, self.count)
+        c < self.used
+            && operands.len() == self.connectives[c as usize].letters as usize
+            && lower(operands, self.count)
     }
 
     // Whether a node may stand as the next one.
@@ -60,7 +52,7 @@ impl Rows {
                 connective: c,
                 arity,
                 operands,
-            } => self.applies(c, arity, operands),
+            } => self.applies(c, &operands[..arity.min(4) as usize]),
         }
     }
 
@@ -71,19 +63,10 @@ impl Rows {
     {
         match row {
             Node::Next(_) => 1,
-            Node::Apply {
-                connective: c,
-                arity: _,
-                operands: _,
-            } => {
-                if c < self.used {
-                    self.connectives[c as usize].states
-                } else {
-                    0
-                }
+            Node::Apply { connective: c, .. } if c < self.used => {
+                self.connectives[c as usize].states
             }
-            Node::True | Node::Proposition(_) | Node::Not(_) | Node::And(_, _) | Node::Or(_, _) =>
-                0,
+            _ => 0,
         }
     }
 }
@@ -105,9 +88,7 @@ fn applied(c: u8, digits: &[u8]) -> Option<Node>
         return None;
     }
     let mut operands = [0; 4];
-    for i in 0..found.len() {
-        operands[i] = found[i];
-    }
+    operands[..found.len()].copy_from_slice(found);
     Some(Node::Apply {
         connective: c,
         arity: found.len() as u8,
@@ -115,104 +96,75 @@ fn applied(c: u8, digits: &[u8]) -> Option<Node>
     })
 }
 
-impl Draft {
-    // Nothing read yet.
-    pub(crate) fn new() -> Draft
-        ensures { of_draft result ≡ blank }
-    {
-        Draft {
-            rows: Rows::new(),
-            ended: false,
-        }
-    }
-
+impl Rows {
     fn connective(&self, m: u8, n: u8, q: u8, f: u8, line: u32) -> Result<Draft, Refusal>
-        ensures { drafted result ≡ taken line (of_draft self.now) (connective m n q f) }
+        ensures { drafted result ≡ taken line (of_draft (Draft.Open self.now)) (connective m n q f) }
     {
-        if self.ended || self.rows.count > 0 {
+        if self.count > 0 {
             return Err(Refusal::Order { line });
         }
         if !in_range(m, n, q, f) {
             return Err(Refusal::Value { line });
         }
-        if self.rows.used >= 4 {
+        if self.used >= 4 {
             return Err(Refusal::Limit { line });
         }
-        let rows = self.rows.with_connective(Connective {
+        Ok(Draft::Open(self.with_connective(Connective {
             states: m,
             letters: n,
             start: q,
             finals: f,
             moves: [0; 32],
-        });
-        Ok(Draft { rows, ended: false })
+        })))
     }
 
     fn transition(&self, p: u8, a: u8, r: u8, line: u32) -> Result<Draft, Refusal>
-        ensures { drafted result ≡ taken line (of_draft self.now) (transition p a r) }
+        ensures { drafted result ≡ taken line (of_draft (Draft.Open self.now)) (transition p a r) }
     {
-        if self.ended || self.rows.count > 0 || self.rows.used == 0 {
+        if self.count > 0 || self.used == 0 {
             return Err(Refusal::Order { line });
         }
-        let latest = self.rows.connectives[self.rows.used as usize - 1];
+        let latest = self.connectives[self.used as usize - 1];
         if p >= latest.states || a >= latest.letters || r >= latest.states {
             return Err(Refusal::Value { line });
         }
-        Ok(Draft {
-            rows: self.rows.with_move(p, a, r),
-            ended: false,
-        })
+        Ok(Draft::Open(self.with_move(p, a, r)))
     }
 
     fn node(&self, row: Node, line: u32) -> Result<Draft, Refusal>
-        ensures { drafted result ≡ taken line (of_draft self.now) (node (node_of row)) }
+        ensures { drafted result ≡ taken line (of_draft (Draft.Open self.now)) (node (node_of row)) }
     {
-        if self.ended {
-            return Err(Refusal::Order { line });
-        }
-        if !self.rows.fits(row) {
+        if !self.fits(row) {
             return Err(Refusal::Value { line });
         }
-        let width = self.rows.width + self.rows.width_of(row);
-        if !within_limits(self.rows.count, width) {
+        let width = self.width + self.width_of(row);
+        if !within_limits(self.count, width) {
             return Err(Refusal::Limit { line });
         }
-        Ok(Draft {
-            rows: self.rows.with_node(row, width),
-            ended: false,
-        })
+        Ok(Draft::Open(self.with_node(row, width)))
     }
 
     fn apply(&self, c: u8, digits: &[u8], line: u32) -> Result<Draft, Refusal>
-        ensures { drafted result ≡ taken line (of_draft self.now) (node (apply c (spelt digits.now))) }
+        ensures { drafted result ≡ taken line (of_draft (Draft.Open self.now)) (node (apply c (spelt digits.now))) }
     {
         match applied(c, digits) {
             Some(row) => self.node(row, line),
-            None => {
-                if self.ended {
-                    Err(Refusal::Order { line })
-                } else {
-                    Err(Refusal::Value { line })
-                }
-            }
+            None => Err(Refusal::Value { line }),
         }
     }
 
     fn end(&self, line: u32) -> Result<Draft, Refusal>
-        ensures { drafted result ≡ taken line (of_draft self.now) end }
+        ensures { drafted result ≡ taken line (of_draft (Draft.Open self.now)) end }
     {
-        if self.ended || self.rows.count == 0 {
+        if self.count == 0 {
             return Err(Refusal::Order { line });
         }
-        Ok(Draft {
-            rows: self.rows,
-            ended: true,
-        })
+        Ok(Draft::Ended(*self))
     }
 
-    // The draft with what a frame at a line says, or the line's refusal.
-    pub(crate) fn take(&self, frame: Frame<'_>, line: u32) -> Result<Draft, Refusal>
-        ensures { drafted result ≡ taken line (of_draft self.now) (meant frame.entry) }
+    // What the rows and a frame at a line give, or the line's refusal.
+    fn take(&self, frame: Frame<'_>, line: u32) -> Result<Draft, Refusal>
+        ensures { drafted result ≡ taken line (of_draft (Draft.Open self.now)) (meant frame.entry) }
     {
         match frame {
             Frame::Connective {
@@ -233,6 +185,25 @@ impl Draft {
             } => self.apply(c, operands, line),
             Frame::True => self.node(Node::True, line),
             Frame::End => self.end(line),
+        }
+    }
+}
+
+impl Draft {
+    // Nothing read yet.
+    pub(crate) fn new() -> Draft
+        ensures { of_draft result ≡ blank }
+    {
+        Draft::Open(Rows::new())
+    }
+
+    // The draft with what a frame at a line says, or the line's refusal: nothing stands after the end.
+    pub(crate) fn take(&self, frame: Frame<'_>, line: u32) -> Result<Draft, Refusal>
+        ensures { drafted result ≡ taken line (of_draft self.now) (meant frame.entry) }
+    {
+        match self {
+            Draft::Open(rows) => rows.take(frame, line),
+            Draft::Ended(_) => Err(Refusal::Order { line }),
         }
     }
 }

@@ -1,6 +1,7 @@
 //! Properties as plain rows: read from a text, and written as their canonical text.
 #![tactic(auto)]
 
+pub mod arrays;
 pub mod building;
 pub mod drafts;
 pub mod judging;
@@ -10,6 +11,7 @@ pub mod reading;
 pub mod rows;
 pub mod writing;
 
+pub use arrays::Rows;
 pub use normal::normalise;
 pub use property::Property;
-pub use rows::{Connective, Node, Rows};
+pub use rows::{Connective, Node};

@@ -2,7 +2,7 @@
 ghost use Rattle.std.specs.Prelude.{◌≡◌, true};
 ghost use Rattle.properties.specs.Views.{fits};
 
-use crate::rows::Rows;
+use crate::arrays::Rows;
 
 #[derive(Clone, Copy)]
 pub struct Property {

@@ -26,9 +26,9 @@ impl Property {
             at += size;
             number += 1;
         }
-        if !draft.ended {
-            return Err(Refusal::Order { line: number });
+        match draft {
+            Draft::Ended(rows) => Ok(Property { rows }),
+            Draft::Open(_) => Err(Refusal::Order { line: number }),
         }
-        Ok(Property { rows: draft.rows })
     }
 }

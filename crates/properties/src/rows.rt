@@ -1,6 +1,5 @@
-//! The plain rows of a property: fixed arrays of connectives and of nodes.
-ghost use Rattle.std.specs.Prelude.{◌≡◌, ◌≤◌, length};
-ghost use Rattle.properties.specs.Views.{FewLetters, FewStates, width_of};
+//! The plain rows of a property: a connective and a node.
+ghost use Rattle.std.specs.Prelude.{◌≤◌};
 
 // A node. An operand is the number of an earlier node.
 #[derive(Clone, Copy)]
@@ -27,23 +26,6 @@ pub struct Connective {
     pub start: u8,
     pub finals: u8,
     pub moves: [u8; 32],
-}
-
-// The first `used` connectives and the first `count` nodes, and the nodes' width: 1 for each next node, and for each connective node
-// the states of its connective.
-#[derive(Clone, Copy)]
-pub struct Rows {
-    pub connectives: [Connective; 4],
-    pub used: u8,
-    pub nodes: [Node; 32],
-    pub count: u8,
-    pub width: u8,
-    ghost four: { length connectives ≡ 4 },
-    ghost many: { length nodes ≡ 32 },
-    ghost few_connectives: { used ≤ 4 },
-    ghost few_nodes: { count ≤ 32 },
-    ghost few_states: { FewStates connectives },
-    ghost few_letters: { FewLetters connectives },
-    ghost wide: { width ≡ width_of connectives used nodes count },
-    ghost narrow: { width ≤ 12 },
+    ghost few_states: { states ≤ 8 },
+    ghost few_letters: { letters ≤ 4 },
 }

@@ -1,11 +1,11 @@
 -- The words of a lasso, one by one.
-use Rattle.std.proofs.Common.{◌≡◌, ℕ, zero, suc, ◌+◌, ◌*◌, ◌<◌, Bool, true, false, cond, ◌&&◌, leb, List, [], ◌∷◌, ◌++◌, length, get_or, take, Ok, Err, Result, sym, refl, ap, ◌∙◌, not-suc-le-zero, arith}
+use Rattle.std.proofs.Common.{◌≡◌, ℕ, ◌+◌, ◌*◌, ◌<◌, Bool, true, cond, List, [], ◌∷◌, ◌++◌, length, get_or, take, Ok, Err, Result, sym, refl, ap, ◌∙◌, arith}
 use Rattle.std.specs.List.{flat_map}
 use Rattle.std.proofs.lemmas.List.{flat_map_more, take_more}
 use Rattle.frames.specs.Areas.{filled, told}
 use Rattle.frames.specs.declared.faults.Refusal.{Refusal}
 use Rattle.frames.specs.declared.faults.Refusal.TheVariants.{Value}
-use Rattle.report.specs.Reports.{all_short, broken_report, broken_text, report_filled, report_told, tellable, word_line}
+use Rattle.report.specs.Reports.{broken_report, broken_text, report_filled, report_told, tellable, word_line}
 
 -- the line of one word more
 pub words_more : (words : List ℕ) (i : ℕ) → i < length words → flat_map word_line (take i words) ++ word_line (get_or words i 0) ≡ flat_map word_line (take (i + 1) words)
@@ -19,22 +19,6 @@ words_length (w ∷ words) = let e = words_length words in omega arith
 -- nineteen bytes come before them
 pub broken_length : (stem loop : ℕ) (lasso : List ℕ) → length (broken_text stem loop lasso) ≡ 19 + 7 * length lasso
 broken_length stem loop lasso = let e = words_length lasso in omega arith
-
--- every word can be told
-pub short : (words : List ℕ) → ((k : ℕ) → k < length words → true ≡ leb (get_or words k 0) 65535) → true ≡ all_short words
-short [] h = refl
-short (w ∷ words) h =
-    short words (λ k lt. h (suc k) (omega arith)) ∙ ap (λ (b : Bool). b && all_short words) (h 0 (omega arith))
-
-never : (b : Bool) → false ≡ (b && false)
-never true = refl
-never false = refl
-
--- one word cannot
-pub long : (words : List ℕ) (k : ℕ) → k < length words → false ≡ leb (get_or words k 0) 65535 → false ≡ all_short words
-long [] k lt h = absurd (not-suc-le-zero lt)
-long (w ∷ words) zero lt h = ap (λ (b : Bool). b && all_short words) h
-long (w ∷ words) (suc k) lt h = never (leb w 65535) ∙ ap (λ (b : Bool). leb w 65535 && b) (long words k (omega arith) h)
 
 -- a lasso that can be told is
 pub broken_told : (stem loop : ℕ) (words lasso area : List ℕ) (r : Result ℕ Refusal) → true ≡ tellable stem loop words → lasso ≡ take (stem + loop) words → r ≡ told (broken_text stem loop lasso) area → r ≡ report_told (broken_report stem loop words) area

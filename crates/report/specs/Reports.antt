@@ -1,6 +1,6 @@
 -- What a check answered, as lines of text.
-use Rattle.std.specs.Prelude.{ℕ, ◌+◌, Bool, true, cond, not, ◌&&◌, List, [], ◌∷◌, ◌++◌, length, take, Ok, Err, Result, ◌==◌, nat_le}
-use Rattle.std.specs.List.{flat_map}
+use Rattle.std.specs.Prelude.{ℕ, ◌+◌, Bool, cond, not, ◌&&◌, List, [], ◌∷◌, ◌++◌, length, take, Ok, Err, Result, ◌==◌, nat_le}
+use Rattle.std.specs.List.{flat_map, list_all}
 use Rattle.frames.specs.Areas.{filled, told}
 use Rattle.frames.specs.Digits.{hexadecimal}
 use Rattle.frames.specs.Refusals.{refusal_text}
@@ -27,8 +27,7 @@ broken_text stem loop lasso = broken_line stem loop ++ flat_map word_line lasso
 
 -- every word can be told in four digits
 abbrev pub all_short : List ℕ → Bool
-all_short [] = true
-all_short (w ∷ words) = nat_le w 65535 && all_short words
+all_short words = list_all (λ w. nat_le w 65535) words
 
 -- there is a loop word, there are as many words as the lasso has, and each of these can be told
 abbrev pub tellable : (stem loop : ℕ) (words : List ℕ) → Bool

@@ -5,25 +5,13 @@ ghost use Rattle.report.specs.Reports.{all_short, broken_report, broken_text, ho
 
 use crate::lines::{put_broken, put_holds};
 use decision::Verdict;
-use frames::Refusal;
+use frames::{Refusal, Writer};
 
-// Whether a word can be told in four digits.
-fn is_short(word: u32) -> bool
-    ensures { result ≡ nat_le word 65535 }
-{
-    word <= 65535
-}
-
-// Whether every word can.
+// Whether every word can be told in four digits.
 fn all_short(words: &[u32]) -> bool
     ensures { result ≡ all_short words.now }
 {
-    for w in words {
-        if !is_short(*w) {
-            return false;
-        }
-    }
-    true
+    words.iter().all(|w| *w <= 65535)
 }
 
 // Whether the words begin with a lasso of these counts that can be told.
@@ -42,15 +30,9 @@ fn report_holds(area: &mut [u8]) -> Result<usize, Refusal>
     if area.len() < 3 {
         return Err(Refusal::Room);
     }
-    Ok(put_holds(area))
-}
-
-// How many bytes BROKEN with a lasso of so many words takes.
-fn size(count: usize) -> usize
-    requires { count < 2 ^ 40 }
-    ensures { result ≡ 19 + 7 * count }
-{
-    19 + 7 * count
+    let mut writer = Writer { area, at: 0 };
+    put_holds(&mut writer);
+    Ok(writer.at)
 }
 
 // Reports BROKEN with a lasso that can be told.
@@ -59,10 +41,12 @@ fn report_lasso(stem: u32, turns: u32, lasso: &[u32], area: &mut [u8]) -> Result
     ensures answer { result ≡ told (broken_text stem turns lasso.now) area.old }
     ensures area { area.new ≡ filled (broken_text stem turns lasso.now) area.old }
 {
-    if area.len() < size(lasso.len()) {
+    if area.len() < 19 + 7 * lasso.len() {
         return Err(Refusal::Room);
     }
-    Ok(put_broken(area, stem, turns, lasso))
+    let mut writer = Writer { area, at: 0 };
+    put_broken(&mut writer, stem, turns, lasso);
+    Ok(writer.at)
 }
 
 // Reports BROKEN with the lasso at the front of the words, if that can be told.
@@ -88,10 +72,8 @@ pub fn report(
     ensures area { area.new ≡ report_filled (reported outcome words.now) area.old }
 {
     match outcome {
-        Ok(verdict) => match verdict {
-            Verdict::Holds => report_holds(area),
-            Verdict::Broken { stem, turns } => report_broken(stem, turns, words, area),
-        },
+        Ok(Verdict::Holds) => report_holds(area),
+        Ok(Verdict::Broken { stem, turns }) => report_broken(stem, turns, words, area),
         Err(refusal) => refusal.show(area),
     }
 }

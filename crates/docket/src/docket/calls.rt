@@ -37,11 +37,7 @@ impl Docket {
         ensures { meant result ≡ found (view self.now).rows number }
     {
         numbered(number)?;
-        let row = &self.rows[number as usize];
-        match *row {
-            Some(property) => Ok(property),
-            None => Err(Refusal::Vacant),
-        }
+        self.rows[number as usize].ok_or(Refusal::Vacant)
     }
 
     // The docket with a row under a number in the place of what was there, counted once more.
@@ -71,7 +67,7 @@ impl Docket {
     pub fn strike(&mut self, number: u32) -> Result<(), Refusal>
         ensures { Struck (view self.old) number result (view self.new) }
     {
-        let _ = self.found(number)?;
+        self.found(number)?;
         *self = self.with_row(number, None);
         Ok(())
     }

@@ -1,6 +1,6 @@
 //! The check of what is under a number over a model.
 ghost use Rattle.ledger.specs.Table.{found};
-ghost use Rattle.models.specs.Markings.{structure};
+ghost use Rattle.models.specs.Markings.{structure_of};
 ghost use Rattle.docket.specs.Calls.{CheckedAs};
 ghost use Rattle.docket.specs.Views.{view};
 
@@ -18,7 +18,7 @@ impl Docket {
         scratch: &mut [u32],
         trace: &mut [u32],
     ) -> Result<Verdict, Refusal>
-        ensures { CheckedAs (structure (M.Graph.states model.now) (M.Graph.edge model.now) (M.Model.marking model.now)) (found (view self.now).rows number) scratch.old scratch.new trace.old trace.new result }
+        ensures { CheckedAs (structure_of M.Model model.now) (found (view self.now).rows number) scratch.old scratch.new trace.old trace.new result }
     {
         let property = self.found(number)?;
         decide(model, &property, scratch, trace)

@@ -1,6 +1,6 @@
 //! The judge of a list of words, by what is under a number.
 ghost use Rattle.ledger.specs.Table.{found};
-ghost use Rattle.models.specs.Markings.{structure};
+ghost use Rattle.models.specs.Markings.{structure_of};
 ghost use Rattle.docket.specs.Calls.{JudgedAs};
 ghost use Rattle.docket.specs.Views.{view};
 
@@ -21,7 +21,7 @@ impl Docket {
         b: u32,
         scratch: &mut [u32],
     ) -> Result<bool, Refusal>
-        ensures { JudgedAs (structure (M.Graph.states model.now) (M.Graph.edge model.now) (M.Model.marking model.now)) (found (view self.now).rows number) (record { list = list.entry.now; stem = a; loop = b }) scratch.old scratch.new result }
+        ensures { JudgedAs (structure_of M.Model model.now) (found (view self.now).rows number) (record { list = list.entry.now; stem = a; loop = b }) scratch.old scratch.new result }
     {
         let property = self.found(number)?;
         judge(&property, model, list, a, b, scratch)

@@ -14,4 +14,4 @@ returns-in_err-frame c =
     rw (p.1, p.2) (fault_of_frame c.args.number (drop c.args.at c.args.text.now) c.in_ok-digits.digits.now _ c.in_ok-digits.ensures c.in_err-frame.ensures)
 
 pub returns : goal.returns
-returns c = rw c.closed_length.ensures (frame_with_size c.args.number (drop c.args.at c.args.text.now) c.in_ok-digits.digits.now _ c.in_ok-digits.ensures c.in_ok-frame.ensures)
+returns c = frame_with_size c.args.number (drop c.args.at c.args.text.now) c.in_ok-digits.digits.now _ c.in_ok-digits.ensures c.in_ok-frame.ensures

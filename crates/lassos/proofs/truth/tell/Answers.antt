@@ -1,19 +1,25 @@
 use Rattle.std.proofs.Common.{length, get_or, sym, refl, arith}
 use Rattle.properties.specs.declared.rows.Node.TheVariants.{True}
-use Rattle.lassos.proofs.Nodes.{connective_row_fits, row_in, simple_from, tells_filled, tells_marked}
+use Rattle.lassos.proofs.Nodes.{connective_row_fits, read_row, row_in, simple_from, tells_filled, tells_marked}
 use Rattle.lassos.proofs.truth.tell.Goals as goal
 
 pub bounds-property-connective : goal.bounds-property-connective
 bounds-property-connective g c = row_in c.args.property.now c.args.k c.in-Apply.connective c.in-Apply.arity c.in-Apply.operands (omega arith) (sym c.in-Apply.is)
 
+pub listed : goal.listed
+listed g c = omega (arith, row_in c.args.property.now c.args.k c.in-Apply.connective c.in-Apply.arity c.in-Apply.operands (omega arith) (sym c.in-Apply.is), c.args.property.now.rows.four)
+
 pub invariant_of-fulfil : goal.invariant_of-fulfil
-invariant_of-fulfil g c = record { fits = connective_row_fits c.args.property.now c.args.k c.in-Apply.connective c.in-Apply.arity c.in-Apply.operands (omega arith) (sym c.in-Apply.is) }
+invariant_of-fulfil g c =
+    let read = read_row c.args.property.now c.args.k c.in-Apply.connective c.in-Apply.arity c.in-Apply.operands (omega arith) (sym c.in-Apply.is) c.index-property-connective.result in
+    record { fits = rw read (connective_row_fits c.args.property.now c.args.k c.in-Apply.connective c.in-Apply.arity c.in-Apply.operands (omega arith) (sym c.in-Apply.is)) }
 
 pub returns-in-Apply : goal.returns-in-Apply
 returns-in-Apply g c =
-    tells_filled c.args.property.now c.args.k c.in-Apply.connective c.in-Apply.arity c.in-Apply.operands (omega arith) (sym c.in-Apply.is)
+    let read = read_row c.args.property.now c.args.k c.in-Apply.connective c.in-Apply.arity c.in-Apply.operands (omega arith) (sym c.in-Apply.is) c.index-property-connective.result in
+    rw read (tells_filled c.args.property.now c.args.k c.in-Apply.connective c.in-Apply.arity c.in-Apply.operands (omega arith) (sym c.in-Apply.is)
     (λ i. (g.M.Model.marking c.args.model.now).label (get_or c.args.rounds.now.list.now i 0)) (length c.args.rounds.now.list.now) c.args.rounds.now.stem c.args.bits.now (omega arith) (omega arith) c.requires.known
-    c.fulfil.new.sets c.fulfil.ensures
+    c.fulfil.new.sets (rw read at c.fulfil.ensures))
 
 pub returns-in_default : goal.returns-in_default
 returns-in_default g c =

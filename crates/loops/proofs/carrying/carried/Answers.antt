@@ -4,7 +4,7 @@ use Rattle.properties.specs.Meaning.{meaning}
 use Rattle.tableau.specs.Images.{image_of}
 use Rattle.loops.proofs.Tables.{Tabled, carried_is, tabled_more, tabled_none, target, target_is}
 use Rattle.loops.proofs.carrying.carried.Goals as goal
-use Rattle.loops.proofs.carrying.carried.Goals.{then-bit_set, else-bit_set}
+use Rattle.loops.proofs.carrying.carried.Goals.{then-has, else-has}
 
 pub loop-q-init : goal.loop-q-init
 loop-q-init c = (refl, tabled_none (meaning c.args.plan.now.property) c.args.label c.args.mask c.args.k c.node_width-states.result c.finals-finals.result (replicate 8 0))
@@ -19,15 +19,15 @@ loop-q-preserved c =
     let small : states ≤ 8 = c.node_width-states.ensures.small in
     let long : length c.loop-q.to ≡ 8 = c.loop-q.invariant.0 in
     let room : c.loop-q.q < length c.loop-q.to = omega arith in
-    let chosen : c.if-bit_set.to ≡ cond c.bit_set.result states c.lowest-r.result = elim c.if-bit_set.branch [
-      | then-bit_set w ↦ w.to-is ∙ sym (ap (λ (b : Bool). cond b states c.lowest-r.result) w.if-bit_set.true)
-      | else-bit_set w ↦ w.to-is ∙ sym (ap (λ (b : Bool). cond b states c.lowest-r.result) w.if-bit_set.false)
+    let chosen : c.if-has.to ≡ cond c.has.result states c.lowest-r.result = elim c.if-has.branch [
+      | then-has w ↦ w.to-is ∙ sym (ap (λ (b : Bool). cond b states c.lowest-r.result) w.if-has.true)
+      | else-has w ↦ w.to-is ∙ sym (ap (λ (b : Bool). cond b states c.lowest-r.result) w.if-has.false)
     ] in
-    let goes : c.if-bit_set.to ≡ target f c.args.label c.args.mask c.args.k states c.finals-finals.result c.loop-q.q =
-    target_is f c.args.label c.args.mask c.args.k states c.finals-finals.result c.loop-q.q c.onward-onward.result c.lowest-r.result c.if-bit_set.to c.bit_set.result
-    c.onward-onward.ensures c.lowest-r.ensures.is c.bit_set.ensures chosen in (
-      length-set c.loop-q.to c.loop-q.q c.if-bit_set.to ∙ long,
-      tabled_more f c.args.label c.args.mask c.args.k states c.finals-finals.result c.loop-q.q c.if-bit_set.to c.loop-q.to room c.loop-q.invariant.1 goes,
+    let goes : c.if-has.to ≡ target f c.args.label c.args.mask c.args.k states c.finals-finals.result c.loop-q.q =
+    target_is f c.args.label c.args.mask c.args.k states c.finals-finals.result c.loop-q.q c.onward-onward.result c.lowest-r.result c.if-has.to c.has.result
+    c.onward-onward.ensures c.lowest-r.ensures.is c.has.ensures chosen in (
+      length-set c.loop-q.to c.loop-q.q c.if-has.to ∙ long,
+      tabled_more f c.args.label c.args.mask c.args.k states c.finals-finals.result c.loop-q.q c.if-has.to c.loop-q.to room c.loop-q.invariant.1 goes,
     )
 
 pub returns : goal.returns

@@ -6,11 +6,11 @@ use Rattle.loops.proofs.Lowest.{lowest_found, lowest_none}
 use Rattle.loops.proofs.carrying.lowest.Goals as goal
 
 pub loop-r-preserved : goal.loop-r-preserved
-loop-r-preserved c = some_not (bit c.args.mask) c.loop-r.r c.loop-r.invariant c.if-bit_set.ensures
+loop-r-preserved c = some_not (bit c.args.mask) c.loop-r.r c.loop-r.invariant c.if-has.ensures
 
-pub returns-then-bit_set : goal.returns-then-bit_set
-returns-then-bit_set c = record {
-  is = lowest_found c.args.n (bit c.args.mask) c.loop-r.r c.loop-r-test.true c.loop-r.invariant c.if-bit_set.ensures;
+pub returns-then-has : goal.returns-then-has
+returns-then-has c = record {
+  is = lowest_found c.args.n (bit c.args.mask) c.loop-r.r c.loop-r-test.true c.loop-r.invariant c.if-has.ensures;
   low = c.loop-r-test.true;
 }
 

@@ -1,25 +1,17 @@
-use Rattle.std.proofs.Common.{◌≡◌, ◌^◌, ◌<◌, ◌≤◌, ◌∙◌, arith, pow_mono}
+use Rattle.std.proofs.Common.{◌≡◌, ◌∙◌, arith}
 use Rattle.properties.specs.Meaning.{meaning}
-use Rattle.loops.proofs.Pendings.{pending_all, pending_none, pending_one, pending_other}
+use Rattle.loops.proofs.Pendings.{pending_all, pending_none, pending_one, pending_other, put_is}
 use Rattle.loops.proofs.carrying.pending.Goals as goal
 use Rattle.loops.proofs.carrying.pending.Goals.{then-due, else-due}
 
 pub loop-q-init : goal.loop-q-init
 loop-q-init c = pending_none (meaning c.args.plan.now.property) c.args.label c.args.mask c.args.k
 
-pub with_bit-all-requires : goal.with_bit-all-requires
-with_bit-all-requires c =
-    let small : c.node_width-q-end.result ≤ 8 = c.node_width-q-end.ensures.small in
-    let low : c.loop-q.q ≤ 31 = omega arith in
-    let fits : c.loop-q.all < 2 ^ c.loop-q.q = c.loop-q.invariant.0 in
-    let most : 2 ^ c.loop-q.q ≤ 2 ^ 31 = pow_mono low in
-    (omega arith, omega arith)
-
 pub loop-q-preserved : goal.loop-q-preserved
 loop-q-preserved c =
     let f = meaning c.args.plan.now.property in
     elim c.if-due.branch [
-      | then-due w ↦ pending_one f c.args.label c.args.mask c.args.k c.loop-q.q c.loop-q.all c.if-due.all c.due.result c.loop-q.invariant c.due.ensures w.if-due.true (w.all-is ∙ w.with_bit-all.ensures)
+      | then-due w ↦ pending_one f c.args.label c.args.mask c.args.k c.loop-q.q c.loop-q.all c.if-due.all c.due.result c.loop-q.invariant c.due.ensures w.if-due.true (w.all-is ∙ put_is w.put-all.result c.loop-q.all c.loop-q.q w.put-all.ensures.number)
       | else-due w ↦ pending_other f c.args.label c.args.mask c.args.k c.loop-q.q c.loop-q.all c.if-due.all c.due.result c.loop-q.invariant c.due.ensures w.if-due.false w.all-is
     ]
 

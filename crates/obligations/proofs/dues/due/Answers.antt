@@ -1,8 +1,9 @@
 use Rattle.std.proofs.Common.{◌≡◌, false, sym, refl, ap, ◌∙◌, arith}
 use Rattle.frames.specs.Frames.{Node}
 use Rattle.properties.specs.Meaning.{meaning}
-use Rattle.product.proofs.Nodes.{narrow_at, node_is, plain_at}
+use Rattle.product.proofs.Nodes.{narrow_at, node_is}
 use Rattle.tableau.specs.Rounds.{pending_node}
+use Rattle.obligations.proofs.Unapplied.{unapplied_at}
 use Rattle.obligations.proofs.Pending.{due_apply}
 use Rattle.obligations.proofs.dues.due.Goals as goal
 
@@ -16,14 +17,9 @@ returns-in-Apply c m u el em =
     ∙ due_apply m (meaning p) u c.args.k c.args.q c.args.label c.args.mask _ _ c.claims-claimed.result c.finals-finals.result
     (node_is p c.args.k c.requires.node _ c.in-Apply.is) c.requires.state c.claims-claimed.ensures c.finals-finals.ensures el em
 
-pub returns-in-Next : goal.returns-in-Next
-returns-in-Next c m u el em =
+pub returns-in_default : goal.returns-in_default
+returns-in_default c m u el em =
     let p = c.args.plan.now.property in
-    sym (ap (λ (x : Node). pending_node m (meaning p) u c.args.k x c.args.q) (node_is p c.args.k c.requires.node _ c.in-Next.is))
-
-pub returns-in-True : goal.returns-in-True
-returns-in-True c m u el em =
-    let p = c.args.plan.now.property in
-    plain_at p c.args.k c.requires.node c.in-True.is
+    unapplied_at p c.args.k c.requires.node
     (λ (x : Node). false ≡ pending_node m (meaning p) u c.args.k x c.args.q)
-    refl (λ _. refl) (λ _. refl) (λ _ _. refl) (λ _ _. refl)
+    refl (λ _. refl) (λ _. refl) (λ _. refl) (λ _ _. refl) (λ _ _. refl) c.in_default.not-Apply

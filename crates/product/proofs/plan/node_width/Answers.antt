@@ -1,14 +1,13 @@
-use Rattle.std.proofs.Common.{◌≡◌, ◌<◌, ◌≤◌, sym, refl, ap, arith}
-use Rattle.frames.specs.Frames.{Node}
+use Rattle.std.proofs.Common.{◌<◌, ◌≤◌, sym, ap, arith}
 use Rattle.language.specs.Properties.{node_width}
 use Rattle.properties.specs.Meaning.{meaning}
-use Rattle.product.proofs.Nodes.{connective_used, node_is, plain_at, width_is}
+use Rattle.product.proofs.Nodes.{connective_used, node_is, width_is}
 use Rattle.product.proofs.plan.node_width.Goals as goal
 
-pub bounds-property-c : goal.bounds-property-c
-bounds-property-c c =
+pub bounds-property-connective : goal.bounds-property-connective
+bounds-property-connective c =
     let p = c.args.property.now in
-    let lt : c.in-Apply.c < p.rows.used = connective_used p c.args.k c.requires _ _ _ c.in-Apply.is in
+    let lt : c.in-Apply.connective < p.rows.used = connective_used p c.args.k c.requires _ _ _ c.in-Apply.is in
     let few : p.rows.used ≤ 4 = p.rows.few_connectives in
     omega arith
 
@@ -20,12 +19,4 @@ returns-in-Next c =
 pub returns-in-Apply : goal.returns-in-Apply
 returns-in-Apply c =
     let p = c.args.property.now in
-    record { is = sym (width_is p c.args.k c.requires _ _ _ c.in-Apply.is); small = p.rows.few_states c.in-Apply.c }
-
-pub returns-in-True : goal.returns-in-True
-returns-in-True c =
-    let p = c.args.property.now in
-    record {
-      is = plain_at p c.args.k c.requires c.in-True.is (λ (x : Node). 0 ≡ node_width (meaning p).connectives x) refl (λ _. refl) (λ _. refl) (λ _ _. refl) (λ _ _. refl);
-      small = omega arith;
-    }
+    record { is = sym (width_is p c.args.k c.requires _ _ _ c.in-Apply.is); small = p.rows.few_states c.in-Apply.connective }

@@ -1,12 +1,10 @@
 use Rattle.std.proofs.Common.{ℕ, ◌+◌, List, [], ◌∷◌, ◌++◌, sym, ap, ◌∙◌, arith}
+use Rattle.frames.proofs.Written.{writes_none}
 use Rattle.language.specs.Canonical.{each, transition_line}
 use Rattle.properties.specs.Views.{connective_of}
-use Rattle.properties.proofs.Texts.{Wrote, each_more, each_wrote, lines_wrote, none_wrote, transition_goes, transition_stays}
+use Rattle.properties.proofs.Texts.{each_more, transition_goes, transition_stays, writes_lines}
 use Rattle.properties.proofs.writing.put_targets.Goals as goal
-use Rattle.properties.proofs.writing.put_targets.Goals.{then-row-word-eq1, else-row-word-eq1}
-
-pub loop-r-init : goal.loop-r-init
-loop-r-init c = (none_wrote c.args.area.now c.args.at, omega arith)
+use Rattle.properties.proofs.writing.put_targets.Goals.{then-word-r-eq1, else-word-r-eq1}
 
 pub loop-r-preserved : goal.loop-r-preserved
 loop-r-preserved c =
@@ -15,25 +13,15 @@ loop-r-preserved c =
     let a = c.args.a in
     let r = c.loop-r.r in
     let f : ℕ → List (List ℕ) = λ x. transition_line (connective_of row) p a x in
-    let lp = c.requires.range.0 in
-    let la = c.requires.range.1 in
-    let lr = c.loop-r-test.true in
+    let before = c.loop-r.invariant.wrote in
+    let near = c.loop-r.invariant.near in
     let one : List (List ℕ) = (0x11 ∷ p ∷ a ∷ r ∷ []) ∷ [] in
-    elim c.if-row-word-eq1.branch [
-      | then-row-word-eq1 w ↦
-          (let e = w.put_line-place.ensures in
-          let step = ap (λ (t : List (List ℕ)). each r f ++ t) (sym (transition_goes row p a r lp la lr w.if-row-word-eq1.true)) ∙ each_more r f in
-          let next : Wrote c.loop-r.area c.if-row-word-eq1.area c.loop-r.place c.if-row-word-eq1.place _ = record { area = w.area-is ∙ e.area; next = w.place-is ∙ e.next } in
-          (lines_wrote (each r f) one (each (r + 1) f) step c.loop-r.invariant.0 next, omega (arith, c.loop-r.invariant.1, w.place-is, e.near)))
-      | else-row-word-eq1 w ↦
-          (let step = ap (λ (t : List (List ℕ)). each r f ++ t) (sym (transition_stays row p a r lp la lr w.if-row-word-eq1.false)) ∙ each_more r f in
-          let next : Wrote c.loop-r.area c.if-row-word-eq1.area c.loop-r.place c.if-row-word-eq1.place [] = record { area = w.area-is; next = omega (arith, w.place-is) } in
-          (lines_wrote (each r f) [] (each (r + 1) f) step c.loop-r.invariant.0 next, omega (arith, c.loop-r.invariant.1, w.place-is)))
+    let range = c.requires.range in
+    elim c.if-word-r-eq1.branch [
+      | then-word-r-eq1 w ↦
+          (let step = ap (λ (t : List (List ℕ)). each r f ++ t) (sym (transition_goes row p a r range.0 range.1 c.loop-r-test.true w.if-word-r-eq1.true)) ∙ each_more r f in
+          rw w.to-is (record { wrote = writes_lines (each r f) one (each (r + 1) f) step before w.put_line.ensures.line; near = omega (arith, near, w.put_line.ensures.near) }))
+      | else-word-r-eq1 w ↦
+          (let step = ap (λ (t : List (List ℕ)). each r f ++ t) (sym (transition_stays row p a r range.0 range.1 c.loop-r-test.true w.if-word-r-eq1.false)) ∙ each_more r f in
+          rw w.to-is (record { wrote = writes_lines (each r f) [] (each (r + 1) f) step before (writes_none c.loop-r.to); near = omega (arith, near) }))
     ]
-
-pub returns : goal.returns
-returns c =
-    let row = c.args.row in
-    let f : ℕ → List (List ℕ) = λ x. transition_line (connective_of row) c.args.p c.args.a x in
-    let w = each_wrote c.loop-r.r row.states f (omega (arith, c.loop-r-test.false, c.loop-r.auto.r-end)) c.loop-r.invariant.0 in
-    record { area = w.area; next = w.next; near = omega (arith, c.loop-r.invariant.1, c.requires.small.1.0) }

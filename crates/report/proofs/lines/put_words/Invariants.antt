@@ -1,8 +1,8 @@
 use Rattle.std.proofs.Common.{◌≡◌, ◌+◌, ◌*◌, take}
 use Rattle.std.specs.List.{flat_map}
-use Rattle.properties.proofs.Texts.{Wrote}
+use Rattle.frames.specs.Writers.{Writes}
 use Rattle.report.specs.Reports.{word_line}
 use Rattle.report.proofs.lines.put_words.Given as goal
 
 abbrev pub invariant-loop-w : goal.invariant-loop-w
-invariant-loop-w l = Wrote l.initial.area l.area l.at l.place (flat_map word_line (take l.w-index l.words)) × (l.place ≡ l.at + 7 * l.w-index)
+invariant-loop-w l = record { wrote : Writes l.initial.to l.to (flat_map word_line (take l.w-index l.words)); near : l.to.at ≡ l.initial.to.at + 7 * l.w-index }

@@ -1,7 +1,6 @@
 use Rattle.std.proofs.Common.{◌<◌, length, drop, sym, ◌∙◌, arith}
 use Rattle.std.proofs.lemmas.List.{length-drop}
 use Rattle.std.proofs.lemmas.Result.{err_from_is_err_and}
-use Rattle.std.proofs.lemmas.Bool.{cond-false, cond-true}
 use Rattle.language.proofs.Forms.{well_formed}
 use Rattle.properties.specs.Meaning.{of_draft, of_rows}
 use Rattle.properties.proofs.Readings.{all_read, decided_by, frame_refused, line_refused, line_size, line_taken, too_long_read}
@@ -18,43 +17,43 @@ returns-in_err-frame c =
     let p = err_from_is_err_and c.from_residual.result c.from_residual.ensures.1 in
     let t = drop c.loop-at.at c.args.text.now in
     let left : 0 < length t = simp length-drop (omega arith) in
-    let e = frame_refused c.loop-at.number (of_draft c.loop-at.draft) t _ left c.in_err-frame.ensures ∙ sym c.loop-at.invariant.2 in
+    let e = frame_refused c.loop-at.number (of_draft c.loop-at.draft) t _ left c.in_err-frame.ensures ∙ sym c.loop-at.invariant.same in
     rw (p.1, p.2) (record { spells = e; decided = decided_by c.args.text.now _ e })
 
 pub returns-in_err-draft : goal.returns-in_err-draft
 returns-in_err-draft c =
     let p = err_from_is_err_and c.from_residual-in_err-draft.result c.from_residual-in_err-draft.ensures.1 in
     let t = drop c.loop-at.at c.args.text.now in
-    let e = line_refused c.loop-at.number (of_draft c.loop-at.draft) t _ c.in_ok-frame.size _ c.in_ok-frame.ensures c.in_err-draft.ensures ∙ sym c.loop-at.invariant.2 in
+    let e = line_refused c.loop-at.number (of_draft c.loop-at.draft) t _ c.in_ok-frame.size _ c.in_ok-frame.ensures c.in_err-draft.ensures ∙ sym c.loop-at.invariant.same in
     rw (p.1, p.2) (record { spells = e; decided = decided_by c.args.text.now _ e })
 
 pub overflow_add-at : goal.overflow_add-at
 overflow_add-at c =
-    let s = line_size c.loop-at.number c.loop-at.at c.args.text.now _ c.in_ok-frame.size c.loop-at.invariant.0 c.in_ok-frame.ensures in
+    let s = line_size c.loop-at.number c.loop-at.at c.args.text.now _ c.in_ok-frame.size c.loop-at.invariant.within c.in_ok-frame.ensures in
     omega (arith, s.1)
 
 pub loop-at-smaller : goal.loop-at-smaller
 loop-at-smaller c =
-    let s = line_size c.loop-at.number c.loop-at.at c.args.text.now _ c.in_ok-frame.size c.loop-at.invariant.0 c.in_ok-frame.ensures in
+    let s = line_size c.loop-at.number c.loop-at.at c.args.text.now _ c.in_ok-frame.size c.loop-at.invariant.within c.in_ok-frame.ensures in
     omega (arith, s.0, s.1)
 
 pub loop-at-preserved : goal.loop-at-preserved
 loop-at-preserved c =
-    let s = line_size c.loop-at.number c.loop-at.at c.args.text.now _ c.in_ok-frame.size c.loop-at.invariant.0 c.in_ok-frame.ensures in
-    let e = c.loop-at.invariant.2 ∙ line_taken c.loop-at.number c.loop-at.at (of_draft c.loop-at.draft) (of_draft c.in_ok-draft.draft) c.args.text.now _ c.in_ok-frame.size c.in_ok-frame.ensures c.in_ok-draft.ensures in
-    (s.1, omega (arith, s.0, c.loop-at.invariant.1), e)
+    let s = line_size c.loop-at.number c.loop-at.at c.args.text.now _ c.in_ok-frame.size c.loop-at.invariant.within c.in_ok-frame.ensures in
+    let e = c.loop-at.invariant.same ∙ line_taken c.loop-at.number c.loop-at.at (of_draft c.loop-at.draft) (of_draft c.in_ok-draft.draft) c.args.text.now _ c.in_ok-frame.size c.in_ok-frame.ensures c.in_ok-draft.ensures in
+    record { within = s.1; numbered = omega (arith, s.0, c.loop-at.invariant.numbered); same = e }
 
-pub returns-then-not-draft : goal.returns-then-not-draft
-returns-then-not-draft c =
-    let e = sym (c.loop-at.invariant.2 ∙ all_read c.loop-at.number (of_draft c.loop-at.draft) c.loop-at.at c.args.text.now c.loop-at-test.false ∙ cond-false c.loop-at.draft.ended _ _ c.if-not-draft.true) in
+pub returns-in-Open : goal.returns-in-Open
+returns-in-Open c =
+    let e = sym (c.loop-at.invariant.same ∙ all_read c.loop-at.number c.loop-at.at c.args.text.now c.loop-at-test.false c.in-Open.is) in
     record { spells = e; decided = decided_by c.args.text.now _ e }
 
 pub invariant_of-result : goal.invariant_of-result
 invariant_of-result c =
-    let e = c.loop-at.invariant.2 ∙ all_read c.loop-at.number (of_draft c.loop-at.draft) c.loop-at.at c.args.text.now c.loop-at-test.false ∙ cond-true c.loop-at.draft.ended _ _ c.if-not-draft.false in
-    record { fit = may_store c.loop-at.draft.rows (well_formed c.args.text.now (of_rows c.loop-at.draft.rows) e) }
+    let e = c.loop-at.invariant.same ∙ all_read c.loop-at.number c.loop-at.at c.args.text.now c.loop-at-test.false c.in-Ended.is in
+    record { fit = may_store c.in-Ended.rows (well_formed c.args.text.now (of_rows c.in-Ended.rows) e) }
 
-pub returns : goal.returns
-returns c =
-    let e = sym (c.loop-at.invariant.2 ∙ all_read c.loop-at.number (of_draft c.loop-at.draft) c.loop-at.at c.args.text.now c.loop-at-test.false ∙ cond-true c.loop-at.draft.ended _ _ c.if-not-draft.false) in
+pub returns-in-Ended : goal.returns-in-Ended
+returns-in-Ended c =
+    let e = sym (c.loop-at.invariant.same ∙ all_read c.loop-at.number c.loop-at.at c.args.text.now c.loop-at-test.false c.in-Ended.is) in
     record { spells = e; decided = decided_by c.args.text.now _ e }

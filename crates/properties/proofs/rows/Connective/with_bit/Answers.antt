@@ -17,6 +17,6 @@ returns c =
     record {
       moves =
           ap (λ v. connective_of (changed row (4 * p + a) (bit_or (get_or row.moves (4 * p + a) 0) v))) bit
-          ∙ row_with row p a r (omega arith) h.0 h.1.0 h.1.1.0 h.1.1.1.0 h.1.1.1.1;
+          ∙ row_with row p a r (omega arith) h.0 h.1.0 h.1.1;
       size = (refl, refl);
     }
