@@ -1,8 +1,8 @@
 -- The set of a position, with the states that lead on.
-use Rattle.std.proofs.Common.{◌≡◌, ℕ, zero, suc, ◌+◌, ◌^◌, ◌<◌, ◌≤◌, Bool, true, false, cond, T, eqb, ◌⊎◌, List, [], ◌∷◌, length, get_or, set, sym, refl, ap, ◌∙◌, subst, inl, inr, ⊎_elim, add-one, arith, eqb→eq}
+use Rattle.std.proofs.Common.{◌≡◌, ℕ, zero, suc, ◌^◌, ◌<◌, ◌≤◌, Bool, true, false, cond, T, eqb, ◌⊎◌, List, [], ◌∷◌, length, get_or, set, sym, refl, ap, ◌∙◌, subst, inl, inr, ⊎_elim, arith, eqb→eq}
 use lib.Bits.{bit_or, or_add_and, and_le_r, or_lt}
 use lib.Pow.{pow-lt}
-use Rattle.std.proofs.lemmas.Bool.{cases_eq, cond-false, cond-true, eq-eqb}
+use Rattle.std.proofs.lemmas.Bool.{cases_eq, eq-eqb}
 use Rattle.masks.specs.Masks.{bit}
 use Rattle.logic.proofs.Bools.{T_or_left, T_or_right, or_T}
 use Rattle.properties.specs.declared.rows.Connective.{Connective as ConnectiveRow}
@@ -74,11 +74,3 @@ pub room_kept : (ws : List ℕ) (i v : ℕ) → get_or ws i 0 ≤ v → room (se
 room_kept [] i v up = omega arith
 room_kept (w ∷ ws) zero v up = omega arith
 room_kept (w ∷ ws) (suc i) v up = let r = room_kept ws i v up in omega arith
-
-module _ (row : ConnectiveRow) (operands : List ℕ) (here there was q : ℕ) where
-  -- one state more is asked
-  pub join_skips : leads row operands here there q ≡ false → joined row operands here there was q ≡ joined row operands here there was (q + 1)
-  join_skips e = sym (ap (joined row operands here there was) (add-one q) ∙ cond-false _ _ _ e)
-
-  pub join_takes : leads row operands here there q ≡ true → bit_or (joined row operands here there was q) (2 ^ q) ≡ joined row operands here there was (q + 1)
-  join_takes e = sym (ap (joined row operands here there was) (add-one q) ∙ cond-true _ _ _ e)

@@ -1,14 +1,14 @@
 -- Bits of a word.
-use Rattle.std.proofs.Common.{Decides, ◌≡◌, ℕ, zero, suc, ◌+◌, ◌*◌, ◌%◌, ◌^◌, ◌<◌, Bool, true, false, cond, not, T, eqb, ◌⊎◌, List, length, get_or, set, sym, refl, ap, ◌∙◌, subst, inl, inr, ⊎_elim, pow-suc, arith, add-one}
+use Rattle.std.proofs.Common.{◌≡◌, ℕ, zero, suc, ◌+◌, ◌*◌, ◌%◌, ◌^◌, ◌<◌, Bool, true, false, cond, not, T, eqb, ◌⊎◌, List, length, get_or, set, sym, refl, ap, ◌∙◌, subst, inl, inr, ⊎_elim, pow-suc, arith}
 use native.Mathlib.Nat.{zero-div}
 use lib.Bits.{bit_and}
 use Rattle.std.proofs.lemmas.List.{get_or-set_other, get_or-set_same}
-use Rattle.std.proofs.lemmas.Bool.{or_from, cases_eq, cases_lt, eq-eqb, eqb-true}
+use Rattle.std.proofs.lemmas.Bool.{cases_eq, cases_lt, eq-eqb, eqb-true}
 use Rattle.std.specs.Int.{from_bool}
 use Rattle.masks.specs.Masks.{bit}
-use Rattle.logic.specs.Product.{mask_of, some_below}
+use Rattle.logic.specs.Product.{mask_of}
 use Rattle.masks.proofs.Bits.{bit_above, bit-bit_and}
-use Rattle.logic.proofs.Bools.{T_and, and_T, some_in, some_out}
+use Rattle.logic.proofs.Bools.{T_and, and_T}
 use Rattle.logic.proofs.Masks.{mask_whole}
 use Rattle.lassos.specs.Sweeps.{meet}
 
@@ -62,19 +62,6 @@ meet_out x y m = go (some_bit (bit_and x y) (bit (bit_and x y)))
     go (inr z) =
         let none : bit_and x y ≡ 0 = sym (mask_whole (bit_and x y) (bit_and x y) (below_pow (bit_and x y))) ∙ z in
         absurd (subst T (ap (λ b. not b) (eq-eqb (bit_and x y) 0 none)) m)
-
--- the answer whether some number below n passes a test
-pub some_decided : (r : Bool) (n : ℕ) (p : ℕ → Bool) → Decides r ((a : ℕ) × (a < n) × (p a ≡ true)) → r ≡ some_below n p
-some_decided true n p d = let found = d.0 refl in sym (T_true _ (some_in n p found.0 found.1 (true_T found.2)))
-some_decided false n p d = go (some_below n p) refl
-  where
-    go : (b : Bool) → some_below n p ≡ b → false ≡ some_below n p
-    go true e = let found = some_out n p (true_T e) in d.1 (found.0, found.1, T_true _ found.2) ∙ sym e
-    go false e = sym e
-
--- no number below n + 1 passes a test that n does not pass, nor any number below n
-pub or_false : (n : ℕ) (p : ℕ → Bool) → p n ≡ false → some_below n p ≡ false → some_below (n + 1) p ≡ false
-or_false n p here below = ap (λ k. some_below k p) (add-one n) ∙ or_from (p n) (some_below n p) here below
 
 -- what holds of each word below i, and of the one that is put at i, holds of each below i + 1
 pub below_set : (P : ℕ → ℕ → Type 0) (xs : List ℕ) (i v : ℕ) → i < length xs → ((j : ℕ) → j < i → P j (get_or xs j 0)) → P i v → (j : ℕ) → j < i + 1 → P j (get_or (set xs i v) j 0)

@@ -1,4 +1,4 @@
-use Rattle.std.proofs.Common.{◌≡◌, false, sym, refl, ap, ◌∙◌, arith}
+use Rattle.std.proofs.Common.{◌≡◌, false, refl, ◌∙◌, arith}
 use Rattle.frames.specs.Frames.{Node}
 use Rattle.properties.specs.Meaning.{meaning}
 use Rattle.product.proofs.Nodes.{narrow_at, node_is}

@@ -1,8 +1,7 @@
 use mathlib.Core.Path.{sym, ◌∙◌}
 use mathlib.Core.List.{List}
 use mathlib.Core.Logic.{inl, inr}
-use Prim.Native.Nat.{ℕ, ◌≤◌}
-use native.Mathlib.Omega.{arith}
+use Prim.Native.Nat.{ℕ}
 use lib.ListN.{length}
 use Rattle.masks.proofs.Bits.{put_one}
 use Rattle.tableau.proofs.Images.{hit_start, hit_one, hit_none}
@@ -11,9 +10,6 @@ use Rattle.tableau.proofs.image.image.Goals.{then-has+then-r-to, else-has, else-
 
 pub loop-q-init : goal.loop-q-init
 loop-q-init c = hit_start c.args.mask (length c.args.to.now) c.args.to.now
-
-pub put-out-requires : goal.put-out-requires
-put-out-requires c = let few : length c.args.to.now ≤ 31 = c.requires in omega arith
 
 pub loop-q-preserved : goal.loop-q-preserved
 loop-q-preserved c =
