@@ -12,7 +12,7 @@ pub enum Request<'a> {
 }
 
 // What it got, where it was not refused.
-#[derive(Clone, Copy)]
+#[derive(Clone, Copy, Debug, PartialEq, Eq)]
 pub enum Answer {
     // an enter or a strike was accepted
     Done,
