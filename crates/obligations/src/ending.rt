@@ -3,7 +3,6 @@ ghost use Rattle.std.specs.Prelude.{◌≡◌, ◌<◌, ◌≤◌, ◌&&◌, sli
 ghost use Rattle.masks.specs.Masks.{bit};
 ghost use Rattle.language.specs.Properties.{node_width};
 ghost use Rattle.logic.specs.Truth.{node_at};
-ghost use Rattle.product.specs.Starts.{Below};
 ghost use Rattle.properties.specs.Meaning.{meaning};
 ghost use Rattle.properties.specs.Views.{connective_of};
 ghost use Rattle.obligations.specs.Layers.{arrives, ends_node, finishes};
@@ -18,7 +17,6 @@ struct Letters {
     row: Connective,
     operands: [u8; 4],
     truths: u32,
-    ghost low: { Below operands row.letters 32 },
 }
 
 impl Letters {

@@ -3,7 +3,7 @@ use Rattle.frames.specs.Frames.{Node}
 use Rattle.masks.specs.Masks.{bit}
 use Rattle.properties.specs.Meaning.{meaning}
 use Rattle.product.proofs.Nodes.{node_is}
-use Rattle.product.proofs.Vertex.{applied_state, connective_listed, connective_low, connective_read, operands_low}
+use Rattle.product.proofs.Vertex.{applied_state, connective_listed, connective_low, connective_read}
 use Rattle.obligations.specs.Layers.{ends_node}
 use Rattle.product.proofs.Unapplied.{unapplied_at}
 use Rattle.obligations.proofs.Ends.{ends_row}
@@ -14,12 +14,6 @@ listed c = connective_listed c.args.plan.now c.args.k c.requires.node _ _ _ c.in
 
 pub bounds-plan-connective : goal.bounds-plan-connective
 bounds-plan-connective c = connective_low c.args.plan.now c.args.k c.requires.node _ _ _ c.in-Apply.is
-
-pub invariant_of-letters : goal.invariant_of-letters
-invariant_of-letters c =
-    let x = c.args.plan.now in
-    let read = connective_read x c.args.k c.requires.node _ _ _ c.in-Apply.is c.index-plan-connective.result in
-    record { low = rw read (operands_low x c.args.k c.requires.node _ _ _ c.in-Apply.is) }
 
 pub finish-requires : goal.finish-requires
 finish-requires c =
