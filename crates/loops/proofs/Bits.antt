@@ -21,7 +21,7 @@ unset true n = absurd (n tt)
 unset false n = refl
 
 -- a mask that is not 0 has a bit
-some_bit : (w M : ℕ) → M < 2 ^ w → 0 < M → T (some_below w (bit M))
+pub some_bit : (w M : ℕ) → M < 2 ^ w → 0 < M → T (some_below w (bit M))
 some_bit w M fits some =
     ⊎_elim (λ t. t)
     (λ none.
