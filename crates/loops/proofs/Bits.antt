@@ -1,9 +1,9 @@
 -- The lowest bit of a mask that is not 0, and the mask without it.
-use Rattle.std.proofs.Common.{◌≡◌, ℕ, zero, suc, ◌*◌, ◌%◌, ◌^◌, ◌<◌, ◌≤◌, Bool, true, false, T, refl, ap, ◌∙◌, ⊎_elim, mod-eq_of_lt, one-mul, zero-mul, arith, pow_mono}
+use Rattle.std.proofs.Common.{◌≡◌, ℕ, zero, suc, ◌*◌, ◌%◌, ◌^◌, ◌<◌, ◌≤◌, false, T, refl, ap, ◌∙◌, ⊎_elim, mod-eq_of_lt, one-mul, zero-mul, arith, pow_mono}
 use Rattle.std.proofs.lemmas.Bool.{cases_lt}
 use Rattle.masks.specs.Masks.{bit}
 use Rattle.logic.specs.Product.{mask_of, some_below}
-use Rattle.logic.proofs.Bools.{some_in}
+use Rattle.logic.proofs.Bools.{T_same, some_in}
 use Rattle.logic.proofs.Masks.{mask_same, mask_whole}
 use Rattle.tableau.specs.Rounds.{count, lowest}
 use Rattle.tableau.proofs.Counts.{count_without, lowest_found}
@@ -15,17 +15,12 @@ pub mask_none : (n : ℕ) → mask_of n (λ _. false) ≡ 0
 mask_none zero = refl
 mask_none (suc n) = let e = mask_none n in let z = zero-mul (2 ^ n) in omega arith
 
--- a test that is not passed
-unset : (b : Bool) → (¬ T b) → b ≡ false
-unset true n = absurd (n tt)
-unset false n = refl
-
 -- a mask that is not 0 has a bit
-some_bit : (w M : ℕ) → M < 2 ^ w → 0 < M → T (some_below w (bit M))
+pub some_bit : (w M : ℕ) → M < 2 ^ w → 0 < M → T (some_below w (bit M))
 some_bit w M fits some =
     ⊎_elim (λ t. t)
     (λ none.
-    let e : mask_of w (bit M) ≡ 0 = mask_same w (bit M) (λ _. false) (λ i lt. unset (bit M i) (λ t. none (some_in w (bit M) i lt t))) ∙ mask_none w in
+    let e : mask_of w (bit M) ≡ 0 = mask_same w (bit M) (λ _. false) (λ i lt. T_same (bit M i) false (λ t. none (some_in w (bit M) i lt t)) (λ f. absurd f)) ∙ mask_none w in
     let whole = mask_whole w M fits in
     absurd (omega arith))
     (T_dec (some_below w (bit M)))

@@ -21,7 +21,7 @@ use Rattle.loops.specs.Carrying.{PendingOf}
 use Rattle.loops.specs.Rounding.{NodesDone, RoundMade, RoundReady, due_count, round_words}
 use Rattle.loops.specs.Settings.{Setting}
 use Rattle.loops.proofs.Bits.{mask_none, some_counted}
-use Rattle.loops.proofs.Rounded.{later_rest}
+use Rattle.loops.proofs.Places.{later}
 
 -- Between two rounds of node k: before its first round the words were `was`, `first` of them written. The rounds of all nodes so far and the obligations that are due
 -- are together fewer than the bits up to this node, if there are bits.
@@ -103,7 +103,7 @@ module _ (m : Kripke) (f : Property) (G : ℕ → Bool) (x k first : ℕ) (was :
         built = made.built;
         rounds = (n + 1, omega arith, omega arith);
         further = omega arith;
-        rest = made.rest ∙ later_rest (done.at + 1) (r.at + 1) words was (omega arith) way.rest;
+        rest = made.rest ∙ later (done.at + 1) (r.at + 1) words was (omega arith) way.rest;
       }
 
   -- after the last

@@ -4,15 +4,14 @@ use Rattle.std.proofs.lemmas.Bool.{both_ways}
 use Rattle.graphs.specs.Walks.{Walk}
 use Rattle.kripke.specs.Models.{Kripke}
 use Rattle.language.specs.Properties.{Property}
+use Rattle.logic.proofs.Bools.{T_true, true_T}
 use Rattle.tableau.specs.Built.{OpenLoop, states_on}
 use Rattle.tableau.specs.Numbers.{inner_edge, vertex_of, vertices}
 use Rattle.tableau.specs.Verdicts.{Tested}
 use Rattle.tableau.proofs.Loops.{builds}
 use Rattle.tableau.proofs.Obliging.{obligation_graph}
-use Rattle.tableau.proofs.Tests.{is_true}
 use Rattle.loops.specs.Visiting.{Visited}
 use Rattle.loops.specs.declared.progress.Standing.{Standing}
-use Rattle.loops.proofs.Inner.{true_T}
 use Rattle.loops.proofs.Places.{Copied}
 
 -- a set that passed the test meets each fair set
@@ -20,7 +19,7 @@ pub some_fair : (m : Kripke) (f : Property) (G : ℕ → Bool) (x j : ℕ) → T
     ((y : ℕ) → G y ≡ true → m.fair j (vertex_of f y).state ≡ false) → ⊥
 some_fair m f G x j tested low none =
     let met = tested.fair j low in
-    both_ways (m.fair j (vertex_of f met.0).state) (none met.0 (is_true _ met.1)) (is_true _ met.2)
+    both_ways (m.fair j (vertex_of f met.0).state) (none met.0 (T_true _ met.1)) (T_true _ met.2)
 
 -- the loop goes on by the walk
 pub visits : (m : Kripke) (f : Property) (G : ℕ → Bool) (x j : ℕ) (stands : Standing) (z end : ℕ) (walk was words : List ℕ) → Visited m f G x j stands was →

@@ -1,19 +1,14 @@
 -- A strongly connected set with an edge inside: its vertices, and the walks between them.
-use Rattle.std.proofs.Common.{◌≡◌, ℕ, ◌<◌, Bool, true, false, T, ltb, sym}
-use Rattle.std.proofs.lemmas.Bool.{and_from, and_parts, ltb-true, true≢false}
+use Rattle.std.proofs.Common.{◌≡◌, ℕ, ◌<◌, Bool, true, T, ltb}
+use Rattle.std.proofs.lemmas.Bool.{and_from, and_parts, ltb-true}
 use Rattle.graphs.specs.Walks.{Reaches}
 use Rattle.kripke.specs.Models.{Kripke}
 use Rattle.language.specs.Properties.{Property}
+use Rattle.logic.proofs.Bools.{T_true, true_T}
 use Rattle.tableau.specs.Numbers.{inner_edge, product_edge, vertices}
 use Rattle.tableau.specs.Verdicts.{MutuallyReachable, Tested}
 use Rattle.tableau.specs.Ways.{Way, Leads, here, step}
 use Rattle.tableau.proofs.Judging.{verdicts}
-use Rattle.tableau.proofs.Tests.{is_true}
-
--- a test that is true passes
-pub true_T : (b : Bool) → b ≡ true → T b
-true_T true e = tt
-true_T false e = absurd (true≢false (sym e))
 
 -- an edge leaves only vertices of the product
 edge_low : (m : Kripke) (f : Property) (x y : ℕ) → product_edge m f x y ≡ true → x < vertices m f
@@ -22,7 +17,7 @@ edge_low m f x y e = ltb-true x (vertices m f) (and_parts (ltb x (vertices m f))
 -- the members of the set are vertices of the product
 pub member_low : (m : Kripke) (f : Property) (G : ℕ → Bool) (x : ℕ) → MutuallyReachable m f G → Tested m f G x → (y : ℕ) → G y ≡ true → y < vertices m f
 member_low m f G x joined tested y in-y =
-    go tested.edge.0 tested.edge.1 (joined y tested.edge.0 (true_T _ in-y) tested.edge.2) (is_true _ tested.edge.4)
+    go tested.edge.0 tested.edge.1 (joined y tested.edge.0 (true_T _ in-y) tested.edge.2) (T_true _ tested.edge.4)
   where
     go : (z w : ℕ) → Way (product_edge m f) (λ n. T (G n)) y z → product_edge m f z w ≡ true → y < vertices m f
     go z w (here i) e = edge_low m f _ w e
@@ -38,7 +33,7 @@ inner_reaches m f G joined x y in-x in-y = verdicts.walk (inner_edge m f G) x y 
 
     go : {a b : ℕ} → Way (product_edge m f) (λ n. T (G n)) a b → Leads (inner_edge m f G) a b
     go (here i) = here tt
-    go (step i e w) = step tt (and_from _ _ e (and_from _ _ (is_true _ i) (is_true _ (first w)))) (go w)
+    go (step i e w) = step tt (and_from _ _ e (and_from _ _ (T_true _ i) (T_true _ (first w)))) (go w)
 
 -- the end of an edge inside the set lies in it
 pub inner_parts : (m : Kripke) (f : Property) (G : ℕ → Bool) (x y : ℕ) → inner_edge m f G x y ≡ true → T (product_edge m f x y) × T (G y)

@@ -1,8 +1,8 @@
 -- The states of a walk, written over words.
-use Rattle.std.proofs.Common.{◌≡◌, ℕ, ◌+◌, ◌-◌, ◌/◌, ◌%◌, ◌^◌, ◌≤◌, List, ◌++◌, length, take, drop, sym, ap, ◌∙◌, append_assoc, arith, length-append}
+use Rattle.std.proofs.Common.{◌≡◌, ℕ, ◌+◌, ◌-◌, ◌/◌, ◌%◌, ◌^◌, ◌≤◌, List, ◌++◌, length, take, drop, sym, ap, ap₂, ◌∙◌, arith}
 use mathlib.Core.List.{map-map}
 use lib.ListN.{length-map}
-use Rattle.std.proofs.lemmas.List.{drop_at, drop-drop, length-take-le, take_at, take-take}
+use Rattle.std.proofs.lemmas.List.{drop-drop, length-take-le, take-take}
 use Rattle.kripke.specs.Models.{Kripke}
 use Rattle.language.specs.Properties.{Property}
 use Rattle.logic.specs.Product.{mask_width}
@@ -10,19 +10,12 @@ use Rattle.tableau.specs.Built.{states_on}
 use Rattle.tableau.specs.Numbers.{vertex_of, vertices}
 use Rattle.tableau.specs.Walks.{Vertex}
 use Rattle.loops.specs.Words.{overwritten, states_from}
+use Rattle.loops.proofs.Written.{drop_overwritten, take_overwritten}
 
 -- the words, which were `was`, go on at `at` with the states of the walk, up to `end`, and past that are as they were
 pub record Copied (m : Kripke) (f : Property) (walk was words : List ℕ) (at end : ℕ) : Type 0 where
   pub written : take end words ≡ take at was ++ states_on m f walk
   pub rest : drop end words ≡ drop end was
-
--- how many words there are up to the end of a part that is written over
-front : (at : ℕ) (part was : List ℕ) → at ≤ length was → length (take at was ++ part) ≡ at + length part
-front at part was fits = length-append (take at was) part ∙ ap (λ n. n + length part) (length-take-le at was fits)
-
--- those words, and the ones that are left
-split : (at : ℕ) (part was : List ℕ) → overwritten at part was ≡ (take at was ++ part) ++ drop (at + length part) was
-split at part was = sym (append_assoc (take at was) part (drop (at + length part) was))
 
 -- the states of the first vertices of a list are those of the walk that it begins with
 states_same : (m : Kripke) (f : Property) (count : ℕ) (list : List ℕ) → count ≤ length list →
@@ -42,12 +35,11 @@ pub copied : (m : Kripke) (f : Property) (size masks at end count : ℕ) (list w
 copied m f size masks at end count list was words size_is masks-is fits end_is low is =
     let part : List ℕ = states_from size masks (take (count - 1) list) in
     let many = states_many size masks count list fits in
-    let long = front at part was low in
-    let cut = is ∙ split at part was in
+    let ends : end ≡ at + length part = end_is ∙ ap (λ n. at + n) (sym many) in
     let same : part ≡ states_on m f (take count list) = ap (λ n. states_from n masks (take (count - 1) list)) size_is ∙ ap (λ n. states_from (vertices m f) n (take (count - 1) list)) masks-is ∙ states_same m f count list fits in
     record {
-      written = ap (take end) cut ∙ take_at (take at was ++ part) (drop (at + length part) was) end (long ∙ ap (λ n. at + n) many ∙ sym end_is) ∙ ap (λ l. take at was ++ l) same;
-      rest = ap (drop end) cut ∙ drop_at (take at was ++ part) (drop (at + length part) was) end (long ∙ ap (λ n. at + n) many ∙ sym end_is) ∙ ap (λ n. drop n was) (ap (λ n. at + n) many ∙ sym end_is);
+      written = ap₂ take ends is ∙ take_overwritten at part was low ∙ ap (λ l. take at was ++ l) same;
+      rest = ap₂ drop ends is ∙ drop_overwritten at part was low ∙ ap (λ n. drop n was) (sym ends);
     }
 
 -- what is as it was from a place on is so from each later place on

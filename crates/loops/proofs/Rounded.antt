@@ -1,14 +1,14 @@
 -- A round by lists: the walk that was found, the states that are written over it, and what is then built.
-use Rattle.std.proofs.Common.{◌≡◌, ℕ, suc, ◌+◌, ◌-◌, ◌*◌, ◌%◌, ◌^◌, ◌<◌, ◌≤◌, Bool, T, List, ◌++◌, length, take, drop, sym, ap, ◌∙◌, subst, ap₂, subst₂, arith, length-append}
+use Rattle.std.proofs.Common.{◌≡◌, ℕ, suc, ◌+◌, ◌-◌, ◌*◌, ◌%◌, ◌^◌, ◌<◌, ◌≤◌, Bool, false, T, Option, MatchOption, IsSome, List, ◌++◌, length, take, drop, sym, ap, ◌∙◌, subst, ap₂, subst₂, arith}
 use mathlib.Core.List.{map-map}
-use Rattle.std.proofs.lemmas.List.{append_assoc, drop-drop, length-drop, length-take-le, take_at, take-take}
-use Rattle.std.proofs.lemmas.Slice.{drop-append-drop}
+use Rattle.std.proofs.lemmas.Bool.{some_since}
+use Rattle.std.proofs.lemmas.List.{length-drop, length-take-le, take-take}
 use Rattle.frames.specs.Frames.Node.{apply}
 use Rattle.graphs.specs.Walks.{Reaches, Walk}
 use Rattle.kripke.specs.Models.{Kripke}
 use Rattle.masks.specs.Masks.{bit}
 use Rattle.language.specs.Properties.{Property, connective_at, node_width, width}
-use Rattle.logic.specs.Product.{mask_width, start_of}
+use Rattle.logic.specs.Product.{mask_width, some_below, start_of}
 use Rattle.logic.specs.Truth.{node_at}
 use Rattle.logic.proofs.Spread.{start_mono, widths}
 use Rattle.obligations.proofs.Coming.{from_is, from_low}
@@ -27,33 +27,13 @@ use Rattle.loops.specs.Carrying.{vertices_from}
 use Rattle.loops.specs.Rounding.{RoundMade, RoundReady, round_words}
 use Rattle.loops.specs.Settings.{Setting}
 use Rattle.loops.specs.Words.{Routed, overwritten, states_from}
-use Rattle.loops.proofs.Bits.{lowest_bit}
+use Rattle.loops.proofs.Bits.{lowest_bit, some_bit}
+use Rattle.loops.proofs.Written.{drop_past, take_overwritten}
 
--- the words up to the end of a part that is written over others
-pub front_written : (at n : ℕ) (part words : List ℕ) → at ≤ length words → length part ≡ n → take (at + n) (overwritten at part words) ≡ take at words ++ part
-front_written at n part words le long =
-    let a : length (take at words) ≡ at = length-take-le at words le in
-    let s = length-append (take at words) part in
-    ap (take (at + n)) (sym (append_assoc (take at words) part (drop (at + length part) words)))
-    ∙ take_at (take at words ++ part) (drop (at + length part) words) (at + n) (omega arith)
-
--- the words past it
-pub back_written : (at n b : ℕ) (part words : List ℕ) → at ≤ length words → length part ≡ n → at + n ≤ b → drop b (overwritten at part words) ≡ drop b words
-back_written at n b part words le long past =
-    let a : length (take at words) ≡ at = length-take-le at words le in
-    let s = length-append (take at words) part in
-    ap (drop b) (sym (append_assoc (take at words) part (drop (at + length part) words)))
-    ∙ drop-append-drop (at + length part) words (take at words ++ part) b (omega arith) (omega arith)
-
--- lists with one rest have one rest further on
-pub later_rest : {A : Type 0} (a b : ℕ) (xs ys : List A) → a ≤ b → drop a xs ≡ drop a ys → drop b xs ≡ drop b ys
-later_rest a b xs ys le e =
-    let s : a + (b - a) ≡ b = omega arith in
-    ap (λ n. drop n xs) (sym s) ∙ sym (drop-drop (b - a) a xs) ∙ ap (drop (b - a)) e ∙ drop-drop (b - a) a ys ∙ ap (λ n. drop n ys) s
-
--- a mask that is not 0 has a width
-pub some_state : (M w n : ℕ) → w ≡ n → M < 2 ^ n → 0 < M → 0 < w
-some_state M w n e fits some = let low = (lowest_bit n M fits some).0 in omega arith
+-- a search of a mask that is not 0 finds a bit
+pub some_due : (M w n : ℕ) (o : Option ℕ) (Q : ℕ → Type 0) → w ≡ n → M < 2 ^ n → 0 < M → MatchOption o (some_below w (bit M) ≡ false) Q → IsSome o
+some_due M w n o Q e fits some met =
+    some_since o _ Q met (λ none. subst T none (some_bit w M (subst (λ i. M < 2 ^ i) (sym e) fits) some))
 
 -- a node of the property is one of the rows
 pub counted : (p : Stored) (k : ℕ) → k < length (meaning p).nodes → k < p.rows.count
@@ -77,7 +57,7 @@ module _ (m : Kripke) (f : Property) (G : ℕ → Bool) (x k : ℕ) (index : Lis
   state_low = found.0
 
   -- q is due
-  pub is_due : T (bit done.due q)
+  is_due : T (bit done.due q)
   is_due = found.1
 
   -- the bit of the obligation is one of the property's
@@ -157,14 +137,15 @@ module _ (m : Kripke) (f : Property) (G : ℕ → Bool) (x k : ℕ) (index : Lis
         let some : 0 < len = routed.some in
         let r = room in
         let s : at + len - 1 ≡ at + (len - 1) = omega arith in
-        ap₂ take s is_after ∙ front_written at (len - 1) (states_on m f l) words (omega arith) size_part ∙ ap (λ p. p ++ states_on m f l) routed.before
+        ap₂ take s is_after ∙ ap (λ i. take (at + i) (overwritten at (states_on m f l) words)) (sym size_part) ∙ take_overwritten at (states_on m f l) words (omega arith) ∙ ap (λ p. p ++ states_on m f l) routed.before
 
     back : drop (at + len - 1 + 1) after ≡ drop (at + len - 1 + 1) was
     back =
         let some : 0 < len = routed.some in
         let r = room in
+        let e = size_part in
         let s : at + len - 1 + 1 ≡ at + len = omega arith in
-        ap₂ drop s is_after ∙ back_written at (len - 1) (at + len) (states_on m f l) words (omega arith) size_part (omega arith) ∙ routed.rest ∙ ap (λ i. drop i was) (sym s)
+        ap₂ drop s is_after ∙ drop_past (at + len) at (states_on m f l) words (omega arith) (omega arith) ∙ routed.rest ∙ ap (λ i. drop i was) (sym s)
 
     pub round_made : RoundMade m f G x k done was after (record { at = at + len - 1; due = due })
     round_made =

@@ -1,8 +1,9 @@
 //! Obligations of a node at a vertex, and where they are carried on leaving it.
-ghost use Rattle.std.specs.Prelude.{◌≡◌, ℕ, ◌<◌, ◌≤◌, List};
+ghost use Rattle.std.specs.Prelude.{◌≡◌, ℕ, ◌<◌, ◌≤◌, false, List, MatchOption, IsTrue};
 ghost use Rattle.frames.specs.Frames.Node.{apply};
 ghost use Rattle.masks.specs.Masks.{bit};
 ghost use Rattle.language.specs.Properties.{node_width};
+ghost use Rattle.logic.specs.Product.{some_below};
 ghost use Rattle.logic.specs.Truth.{node_at};
 ghost use Rattle.models.specs.Markings.{structure_of};
 ghost use Rattle.properties.specs.Meaning.{meaning};
@@ -33,18 +34,12 @@ pub(crate) fn pending(plan: &Plan, label: u16, mask: u32, k: usize) -> u32
     all
 }
 
-// The lowest bit of a mask below n, or n - 1 where there is none.
-pub(crate) fn lowest(mask: u32, n: u32) -> u32
-    requires { (0 < n) × (n ≤ 32) }
-    ensures is { result ≡ lowest n (bit mask) }
-    ensures low { result < n }
+// The lowest bit of a mask below n.
+pub(crate) fn lowest(mask: u32, n: u32) -> Option<u32>
+    requires { n ≤ 32 }
+    ensures { MatchOption result (some_below n (bit mask) ≡ false) (λ r. (r < n) × (r ≡ lowest n (bit mask)) × IsTrue (bit mask r)) }
 {
-    for r in 0..n {
-        if has(mask, r) {
-            return r;
-        }
-    }
-    n - 1
+    (0..n).find(|&r| has(mask, r))
 }
 
 // Where the obligations `due` of node k are carried on leaving a vertex with this label and mask.
@@ -57,7 +52,9 @@ fn carried(plan: &Plan, label: u16, mask: u32, k: usize, due: u32) -> u32
     let mut to = [0u32; 8];
     for q in 0..states {
         let onward = plan.onward(label, mask, k, q);
-        let r = lowest(onward, states as u32);
+        // Where no state follows, the definition that the table is proved against takes the last one.
+        let r = lowest(onward, states as u32).unwrap_or(states as u32 - 1);
+        // A number past the end says that the state leaves: `image` promises its callers tables of plain numbers.
         to[q as usize] = if has(finals as u32, r) {
             states as u32
         } else {

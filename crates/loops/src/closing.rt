@@ -15,6 +15,7 @@ impl<'a, M: Model> Accepted<'a, M> {
     ghost use Rattle.loops.specs.Visiting.{Closed, Visited};
 
     // Takes one more edge, and a walk back to x; tells how many words the loop has.
+    // The finder and the list are no fields: each contract would then have to say that all other fields stay, and not only that the finder does.
     pub(crate) fn close(
         &self,
         stands: Standing,

@@ -35,7 +35,7 @@ impl<'a, M: Model> Accepted<'a, M> {
         let o = &self.obligations;
         let plan = o.inside.product.plan;
         let size = o.inside.states();
-        let q = lowest(done.due, node_width(&plan.property, k) as u32);
+        let q = lowest(done.due, node_width(&plan.property, k) as u32).unwrap();
         let from = self.x + (plan.starts[k] as u32 + q + 1) * size;
         let room = o.states() as usize;
         let at = done.at;

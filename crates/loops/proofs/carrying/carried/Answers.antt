@@ -1,16 +1,15 @@
 use Rattle.std.proofs.Common.{◌≡◌, ℕ, ◌<◌, ◌≤◌, Bool, cond, length, take, replicate, sym, refl, ap, ◌∙◌, arith, length-set}
 use native.Mathlib.Nat.{sub-zero}
+use Rattle.masks.specs.Masks.{bit}
 use Rattle.properties.specs.Meaning.{meaning}
 use Rattle.tableau.specs.Images.{image_of}
+use Rattle.loops.proofs.Lowest.{lowest_or_last}
 use Rattle.loops.proofs.Tables.{Tabled, carried_is, tabled_more, tabled_none, target, target_is}
 use Rattle.loops.proofs.carrying.carried.Goals as goal
 use Rattle.loops.proofs.carrying.carried.Goals.{then-has, else-has}
 
 pub loop-q-init : goal.loop-q-init
 loop-q-init c = (refl, tabled_none (meaning c.args.plan.now.property) c.args.label c.args.mask c.args.k c.node_width-states.result c.finals-finals.result (replicate 8 0))
-
-pub lowest-r-requires : goal.lowest-r-requires
-lowest-r-requires c = let small : c.node_width-states.result ≤ 8 = c.node_width-states.ensures.small in (omega arith, omega arith)
 
 pub loop-q-preserved : goal.loop-q-preserved
 loop-q-preserved c =
@@ -19,13 +18,13 @@ loop-q-preserved c =
     let small : states ≤ 8 = c.node_width-states.ensures.small in
     let long : length c.loop-q.to ≡ 8 = c.loop-q.invariant.0 in
     let room : c.loop-q.q < length c.loop-q.to = omega arith in
-    let chosen : c.if-has.to ≡ cond c.has.result states c.lowest-r.result = elim c.if-has.branch [
-      | then-has w ↦ w.to-is ∙ sym (ap (λ (b : Bool). cond b states c.lowest-r.result) w.if-has.true)
-      | else-has w ↦ w.to-is ∙ sym (ap (λ (b : Bool). cond b states c.lowest-r.result) w.if-has.false)
+    let chosen : c.if-has.to ≡ cond c.has.result states c.unwrap_or-r.result = elim c.if-has.branch [
+      | then-has w ↦ w.to-is ∙ sym (ap (λ (b : Bool). cond b states c.unwrap_or-r.result) w.if-has.true)
+      | else-has w ↦ w.to-is ∙ sym (ap (λ (b : Bool). cond b states c.unwrap_or-r.result) w.if-has.false)
     ] in
     let goes : c.if-has.to ≡ target f c.args.label c.args.mask c.args.k states c.finals-finals.result c.loop-q.q =
-    target_is f c.args.label c.args.mask c.args.k states c.finals-finals.result c.loop-q.q c.onward-onward.result c.lowest-r.result c.if-has.to c.has.result
-    c.onward-onward.ensures c.lowest-r.ensures.is c.has.ensures chosen in (
+    target_is f c.args.label c.args.mask c.args.k states c.finals-finals.result c.loop-q.q c.onward-onward.result c.unwrap_or-r.result c.if-has.to c.has.result
+    c.onward-onward.ensures (c.unwrap_or-r.ensures ∙ lowest_or_last states (bit c.onward-onward.result) c.lowest.result (omega arith) c.lowest.ensures) c.has.ensures chosen in (
       length-set c.loop-q.to c.loop-q.q c.if-has.to ∙ long,
       tabled_more f c.args.label c.args.mask c.args.k states c.finals-finals.result c.loop-q.q c.if-has.to c.loop-q.to room c.loop-q.invariant.1 goes,
     )

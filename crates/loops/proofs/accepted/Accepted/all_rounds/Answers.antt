@@ -6,7 +6,7 @@ use Rattle.properties.proofs.Verdicts.{length_nodes}
 use Rattle.tableau.specs.Numbers.{vertices}
 use Rattle.loops.specs.Rounding.{NodesDone}
 use Rattle.loops.proofs.Budgets.{nodes_begin, nodes_end, nodes_few}
-use Rattle.loops.proofs.Rounded.{later_rest}
+use Rattle.loops.proofs.Places.{later}
 use Rattle.loops.proofs.accepted.Accepted.all_rounds.Goals as goal
 
 pub loop-k-init : goal.loop-k-init
@@ -36,7 +36,7 @@ loop-k-preserved g c =
     let m : Kripke = model_in (record { states = g.M.Graph.states; edge = g.M.Graph.edge; marking = g.M.Model.marking }) inside in
     let further : c.loop-k.at ≤ c.node_rounds-at.result = c.node_rounds-at.ensures.further in (
       subst (λ k. NodesDone m (property_in inside) (set_in inside) c.args.self.now.x k c.node_rounds-at.result c.node_rounds-at.new.words) (sym (add-one c.loop-k.k)) c.node_rounds-at.ensures.done,
-      c.node_rounds-at.ensures.rest ∙ later_rest (c.loop-k.at + 1) (c.node_rounds-at.result + 1) c.loop-k.words c.args.words.now (omega arith) c.loop-k.invariant.1,
+      c.node_rounds-at.ensures.rest ∙ later (c.loop-k.at + 1) (c.node_rounds-at.result + 1) c.loop-k.words c.args.words.now (omega arith) c.loop-k.invariant.1,
       c.node_rounds-at.ensures.finder ∙ c.loop-k.invariant.2,
     )
 

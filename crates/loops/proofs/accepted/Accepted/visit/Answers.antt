@@ -5,8 +5,9 @@ use Rattle.obligations.specs.Shapes.{model_in, property_in, set_in}
 use Rattle.obligations.specs.Testing.{Met}
 use Rattle.tableau.specs.Numbers.{vertex_of, vertices}
 use Rattle.loops.proofs.Fairness.{some_fair, visits}
+use Rattle.logic.proofs.Bools.{true_T}
 use Rattle.loops.proofs.Found.{some_from}
-use Rattle.loops.proofs.Inner.{inner_reaches, member_low, true_T}
+use Rattle.loops.proofs.Inner.{inner_reaches, member_low}
 use Rattle.loops.proofs.Places.{copied}
 use Rattle.loops.proofs.Rooms.{copy_fits, low_part, one_layer, one_less, some_size, walk_end, walk_fits, walk_room}
 use Rattle.loops.proofs.accepted.Accepted.visit.Goals as goal
