@@ -41,15 +41,15 @@ fn tabled(rt: &HostRuntime, n: u32) -> anyhow::Result<()> {
     let heap = rt.alloc();
     let mut store = vec![in heap; 0; 16384]?;
     let first = format!(in heap; "01{n:04X}00\n")?;
-    let Ok(mut filling) = begin(first.as_bytes(), store.as_mut_slice()) else {
-        return Err(anyhow!("no such table"));
-    };
+    let mut filling = begin(first.as_bytes(), store.as_mut_slice()).map_err(|_| anyhow!(
+        "no such table"
+    ))?;
     for s in 0..n {
         let t = if s + 1 < n { s + 1 } else { 0 };
         let line = format!(in heap; "03{s:04X}{t:04X}\n")?;
-        if filling.feed(line.as_bytes(), store.as_mut_slice()).is_err() {
-            return Err(anyhow!("no such line"));
-        }
+        filling
+            .feed(line.as_bytes(), store.as_mut_slice())
+            .map_err(|_| anyhow!("no such line"))?;
     }
     let sealed = filling.seal();
     longest(rt, &Table::new(&sealed, store.as_slice()))
@@ -57,9 +57,7 @@ fn tabled(rt: &HostRuntime, n: u32) -> anyhow::Result<()> {
 
 fn judged(rt: &HostRuntime, n: u32) -> anyhow::Result<()> {
     let heap = rt.alloc();
-    let Ok(property) = Property::read(EVERY_SEVENTH) else {
-        return Err(anyhow!("no property"));
-    };
+    let property = Property::read(EVERY_SEVENTH).map_err(|_| anyhow!("no property"))?;
     let ring = Ring::new(64);
     let list: Vec<u32> = (0..n).map(|i| i % 64).collect(heap)?;
     let mut scratch = vec![in heap; 0; 3 * n as usize]?;

@@ -16,15 +16,11 @@ fn run(rt: &HostRuntime) -> anyhow::Result<()> {
     let mut text = Vec::new(heap);
     rt.stdin().take(MOST).read_to_end(&mut text)?;
     let mut area = vec![in heap; 0; ROOM]?;
-    match normalise(&text, &mut area) {
-        Ok(length) => {
-            if let Some(shown) = area.get(..length) {
-                rt.stdout().write_all(shown)?;
-            }
-            Ok(())
-        }
-        Err(_) => Err(anyhow!("the text has no room")),
+    let length = normalise(&text, &mut area).map_err(|_| anyhow!("the text has no room"))?;
+    if let Some(shown) = area.get(..length) {
+        rt.stdout().write_all(shown)?;
     }
+    Ok(())
 }
 
 fn main(rt: HostRuntime) -> anyhow::Result<()> {

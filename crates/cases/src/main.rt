@@ -45,18 +45,14 @@ fn run_case(rt: &HostRuntime, case: &str) -> anyhow::Result<()> {
         push_piece(&mut text, piece)?;
     }
     let mut area = vec![in heap; 0; ROOM]?;
-    match normalise(&text, &mut area) {
-        Ok(length) => {
-            if let Some(shown) = area.as_mut_slice().get_mut(..length) {
-                noted(shown);
-                print!(rt; "{case} -> ")?;
-                rt.stdout().write_all(shown)?;
-                println!(rt; "")?;
-            }
-            Ok(())
-        }
-        Err(_) => Err(anyhow!("no room")),
+    let length = normalise(&text, &mut area).map_err(|_| anyhow!("no room"))?;
+    if let Some(shown) = area.as_mut_slice().get_mut(..length) {
+        noted(shown);
+        print!(rt; "{case} -> ")?;
+        rt.stdout().write_all(shown)?;
+        println!(rt; "")?;
     }
+    Ok(())
 }
 
 fn main(rt: HostRuntime) -> anyhow::Result<()> {
