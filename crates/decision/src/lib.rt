@@ -5,6 +5,7 @@ mod accepting;
 pub mod deciding;
 mod exploring;
 mod granting;
+mod searching;
 mod sweeping;
 pub mod verdict;
 
