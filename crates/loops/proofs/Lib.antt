@@ -1,7 +1,6 @@
 pub mod Written
 pub mod Routes
 pub mod Lowest
-pub mod Pendings
 pub mod Tables
 pub mod Along
 pub mod Bits

@@ -13,7 +13,7 @@ ghost use Rattle.tableau.specs.Rounds.{lowest};
 ghost use Rattle.loops.specs.Carrying.{CarriedOf, PendingOf, vertices_from};
 
 use graphs::Graph;
-use masks::{has, put};
+use masks::has;
 use models::Model;
 use obligations::due;
 use product::Plan;
@@ -25,13 +25,10 @@ pub(crate) fn pending(plan: &Plan, label: u16, mask: u32, k: usize) -> u32
     requires { k < plan.now.property.rows.count }
     ensures { PendingOf (meaning plan.now.property) label mask k result }
 {
-    let mut all = 0;
-    for q in 0..node_width(&plan.property, k) {
-        if due(plan, label, mask, k, q) {
-            all = put(all, q as u32, true);
-        }
-    }
-    all
+    masks::mask(
+        node_width(&plan.property, k),
+        |q| due(plan, label, mask, k, q),
+    )
 }
 
 // The lowest bit of a mask below n.

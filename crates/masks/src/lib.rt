@@ -1,7 +1,7 @@
 //! Words as sets of small numbers.
 #![tactic(auto)]
 
-ghost use Rattle.std.specs.Prelude.{◌≡◌, ℕ, ◌+◌, ◌-◌, ◌*◌, ◌^◌, ◌<◌, ◌==◌, if◌then◌else◌, nat_lt};
+ghost use Rattle.std.specs.Prelude.{◌≡◌, ℕ, ◌+◌, ◌-◌, ◌*◌, ◌^◌, ◌<◌, ◌≤◌, ◌==◌, if◌then◌else◌, nat_lt};
 ghost use Rattle.masks.specs.Masks.{bit};
 
 // Whether bit `k` of a word is set; a word has no bit 32 or above.
@@ -22,6 +22,20 @@ pub fn put(word: u32, k: u32, value: bool) -> u32
     } else {
         word & !(1 << k)
     }
+}
+
+// The mask of n bits, of which `test` says which are set.
+pub fn mask<F: Fn(u8) -> bool>(n: u8, test: F) -> u32
+    requires few { n ≤ 32 }
+    requires asked { (i : ℕ) → i < n → F.pre test i }
+    ensures fits { result < 2 ^ n }
+    ensures bits { (i : ℕ) → i < n → F.post test i (bit result i) }
+{
+    let mut all = 0;
+    for i in 0..n {
+        all = put(all, i as u32, test(i));
+    }
+    all
 }
 
 // The word whose bits below `k` are those of `low`, and whose bits from `k` on are those of `high`.

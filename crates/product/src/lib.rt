@@ -2,7 +2,6 @@
 #![tactic(auto)]
 
 mod applied;
-mod bits;
 mod chains;
 mod claiming;
 mod evaluating;

@@ -1,21 +1,18 @@
-use Rattle.std.proofs.Common.{◌≡◌, ◌∙◌, arith}
+use Rattle.std.proofs.Common.{ap, ◌∙◌, rules}
 use Rattle.properties.specs.Meaning.{meaning}
-use Rattle.loops.proofs.Pendings.{pending_all, pending_none, pending_one, pending_other, put_is}
+use Rattle.masks.specs.Masks.{bit}
+use Rattle.logic.specs.Product.{mask_of}
+use Rattle.tableau.specs.Rounds.{pending}
+use Rattle.obligations.specs.Dues.{DueOf}
+use Rattle.product.proofs.Loops.{mask_told}
 use Rattle.loops.proofs.carrying.pending.Goals as goal
-use Rattle.loops.proofs.carrying.pending.Goals.{then-due, else-due}
-
-pub loop-q-init : goal.loop-q-init
-loop-q-init c = pending_none (meaning c.args.plan.now.property) c.args.label c.args.mask c.args.k
-
-pub loop-q-preserved : goal.loop-q-preserved
-loop-q-preserved c =
-    let f = meaning c.args.plan.now.property in
-    elim c.if-due.branch [
-      | then-due w ↦ pending_one f c.args.label c.args.mask c.args.k c.loop-q.q c.loop-q.all c.if-due.all c.due.result c.loop-q.invariant c.due.ensures w.if-due.true (w.all-is ∙ put_is w.put-all.result c.loop-q.all c.loop-q.q w.put-all.ensures.number)
-      | else-due w ↦ pending_other f c.args.label c.args.mask c.args.k c.loop-q.q c.loop-q.all c.if-due.all c.due.result c.loop-q.invariant c.due.ensures w.if-due.false w.all-is
-    ]
 
 pub returns : goal.returns
-returns c =
-    let end : c.loop-q.q ≡ c.node_width-q-end.result = omega arith in
-    pending_all (meaning c.args.plan.now.property) c.args.label c.args.mask c.args.k c.loop-q.q c.loop-q.all (end ∙ c.node_width-q-end.ensures.is) c.loop-q.invariant.1
+returns c m u el em =
+    let f = meaning c.args.plan.now.property in
+    let k = c.args.k in
+    mask_told c.node_width.result c.mask.result (pending m f u k) c.mask.ensures.fits
+    (λ q lt. let h = c.mask.ensures.bits q lt in
+    let due : DueOf f c.args.label c.args.mask k q (bit c.mask.result q) = search rules in
+    due m u el em)
+    ∙ ap (λ n. mask_of n (pending m f u k)) c.node_width.ensures.is

@@ -1,6 +1,6 @@
 use Rattle.std.proofs.Common.{ℕ, ◌^◌, ◌<◌}
 use Rattle.masks.specs.Masks.{bit}
-use Rattle.product.proofs.bits.mask.Given as goal
+use Rattle.masks.proofs.mask.Given as goal
 
 abbrev pub invariant-loop-i : goal.invariant-loop-i
 invariant-loop-i g l = record {
