@@ -21,7 +21,7 @@ use Rattle.properties.specs.declared.rows.Node.TheVariants.{True, Proposition, N
 use Rattle.properties.proofs.Formed.{formed}
 use Rattle.properties.proofs.Verdicts.{connective_in, length_connectives, length_nodes}
 use Rattle.lassos.specs.Rounds.{after}
-use Rattle.lassos.specs.Sweeps.{Filled, Fits, Runs}
+use Rattle.lassos.specs.Sweeps.{Filled, Runs}
 use Rattle.lassos.specs.Truths.{Known, Marked, Tells, round, said}
 use Rattle.lassos.proofs.Sweeps.{after_in}
 use Rattle.lassos.proofs.Words.{below_set}
@@ -119,13 +119,9 @@ module _ (p : Stored) (k c arity : ℕ) (operands : List ℕ) (lk : k < p.rows.c
   row_is : connective_at (meaning p).connectives c ≡ connective_of (get_or p.rows.connectives c no_row)
   row_is = connective_in p.rows c used
 
-  -- which fits
-  pub connective_row_fits : Fits (get_or p.rows.connectives c no_row)
-  connective_row_fits = record {
-    states = (get_or p.rows.connectives c no_row).few_states;
-    letters = (get_or p.rows.connectives c no_row).few_letters;
-    finals = finals_fit (connective_of (get_or p.rows.connectives c no_row)) (subst (λ x. connective_fits x ≡ true) row_is (connective_fit (meaning p).connectives (formed p).connectives_fit c applied_fits.0));
-  }
+  -- whose final states are states
+  pub final_states : (get_or p.rows.connectives c no_row).finals < 2 ^ (get_or p.rows.connectives c no_row).states
+  final_states = finals_fit (connective_of (get_or p.rows.connectives c no_row)) (subst (λ x. connective_fits x ≡ true) row_is (connective_fit (meaning p).connectives (formed p).connectives_fit c applied_fits.0))
 
   -- the operand of a letter
   letter_in : (x : ℕ) → x < (get_or p.rows.connectives c no_row).letters → x < length (take arity operands)
