@@ -10,11 +10,12 @@ use Rattle.kripke.specs.Models.{Kripke}
 use Rattle.language.specs.Properties.{Property}
 use Rattle.logic.specs.OnLassos.{Counterexample, Falsifies}
 use Rattle.logic.specs.Truth.{Holds, root}
+use Rattle.logic.proofs.Bools.{T_true}
 use Rattle.lassos.specs.Lists.{lasso_of, line_of}
 use Rattle.lassos.specs.Rounds.{AllMeet, words_from}
 use Rattle.lassos.specs.Truths.{round}
 use Rattle.lassos.specs.declared.shape.Rounds.{Rounds}
-use Rattle.lassos.proofs.Words.{T_true, true_T}
+use Rattle.lassos.proofs.Words.{true_T}
 
 -- the answer whether each number below n has P
 pub all_below : (r : Bool) (n m : ℕ) (P : ℕ → Type 0) → n ≡ m → MatchBool r (AllWithin P (range_with_len 0 n) 0 (length (range_with_len 0 n))) ((k : ℕ) × (k < length (range_with_len 0 n)) × HoldsAt (λ j. ¬ (P j)) (range_with_len 0 n) k) →

@@ -1,12 +1,13 @@
 -- What a node says by the bits at hand is its truth.
-use Rattle.std.proofs.Common.{◌≡◌, ℕ, zero, suc, ◌+◌, ◌^◌, ◌<◌, Bool, true, T, ltb, leb, ◌↔◌, List, [], ◌∷◌, length, get_or, take, set, sym, refl, ap, ◌∙◌, subst, ap₂, arith}
+use Rattle.std.proofs.Common.{◌≡◌, ℕ, zero, suc, ◌+◌, ◌^◌, ◌<◌, Bool, true, T, ltb, leb, ◌↔◌, List, length, get_or, take, set, sym, refl, ap, ◌∙◌, subst, ap₂, arith}
 use mathlib.Core.Logic.Iff
 use Rattle.std.proofs.lemmas.List.{get_or-take, get_or_default, length-take, get_or-map}
 use Rattle.std.proofs.lemmas.Bool.{and_parts, ltb-true}
 use Rattle.frames.specs.Frames.{Node}
 use Rattle.frames.specs.Frames.Node.{apply, truth}
 use Rattle.masks.specs.Masks.{bit}
-use Rattle.language.specs.Properties.{Connective, Property, all_fit, connective_at, connective_fits}
+use Rattle.language.specs.Properties.{Connective, Property, connective_at, connective_fits}
+use Rattle.language.proofs.Nodes.{connective_fit}
 use Rattle.logic.specs.Truth.{Fulfilled, Holds, Line, Says, later, node_at}
 use Rattle.logic.proofs.Bools.{along_T, iff_and, iff_not, iff_or}
 use Rattle.logic.proofs.Fits.{NodeFits, fits_at}
@@ -20,7 +21,7 @@ use Rattle.properties.specs.declared.rows.Node.TheVariants.{True, Proposition, N
 use Rattle.properties.proofs.Formed.{formed}
 use Rattle.properties.proofs.Verdicts.{connective_in, length_connectives, length_nodes}
 use Rattle.lassos.specs.Rounds.{after}
-use Rattle.lassos.specs.Sweeps.{Filled, Fits, Runs}
+use Rattle.lassos.specs.Sweeps.{Filled, Runs}
 use Rattle.lassos.specs.Truths.{Known, Marked, Tells, round, said}
 use Rattle.lassos.proofs.Sweeps.{after_in}
 use Rattle.lassos.proofs.Words.{below_set}
@@ -91,11 +92,6 @@ later_same l m e (suc j) i = later_same l m e j (l.after i) ∙ ap (later m j) (
 fulfil_line : (c : Connective) (P : ℕ → ℕ → Type 0) (l m : Line) → ((i : ℕ) → l.after i ≡ m.after i) → (q i : ℕ) → Fulfilled c P l q i → Fulfilled c P m q i
 fulfil_line c P l m e q i t = record { word = t.word; run = t.run; accepts = t.accepts; operands = λ j lt. subst (P (get_or t.word j 0)) (later_same l m e j i) (t.operands j lt) }
 
-connective_fit : (cs : List Connective) → all_fit cs ≡ true → (c : ℕ) → c < length cs → connective_fits (connective_at cs c) ≡ true
-connective_fit [] h c lt = absurd (omega arith)
-connective_fit (x ∷ cs) h zero lt = (and_parts (connective_fits x) (all_fit cs) h).0
-connective_fit (x ∷ cs) h (suc c) lt = connective_fit cs (and_parts (connective_fits x) (all_fit cs) h).1 c (omega arith)
-
 finals_fit : (c : Connective) → connective_fits c ≡ true → c.finals < 2 ^ c.states
 finals_fit c h =
     let a = and_parts (leb 1 c.states) _ h in
@@ -123,13 +119,9 @@ module _ (p : Stored) (k c arity : ℕ) (operands : List ℕ) (lk : k < p.rows.c
   row_is : connective_at (meaning p).connectives c ≡ connective_of (get_or p.rows.connectives c no_row)
   row_is = connective_in p.rows c used
 
-  -- which fits
-  pub connective_row_fits : Fits (get_or p.rows.connectives c no_row)
-  connective_row_fits = record {
-    states = (get_or p.rows.connectives c no_row).few_states;
-    letters = (get_or p.rows.connectives c no_row).few_letters;
-    finals = finals_fit (connective_of (get_or p.rows.connectives c no_row)) (subst (λ x. connective_fits x ≡ true) row_is (connective_fit (meaning p).connectives (formed p).connectives_fit c applied_fits.0));
-  }
+  -- whose final states are states
+  pub final_states : (get_or p.rows.connectives c no_row).finals < 2 ^ (get_or p.rows.connectives c no_row).states
+  final_states = finals_fit (connective_of (get_or p.rows.connectives c no_row)) (subst (λ x. connective_fits x ≡ true) row_is (connective_fit (meaning p).connectives (formed p).connectives_fit c applied_fits.0))
 
   -- the operand of a letter
   letter_in : (x : ℕ) → x < (get_or p.rows.connectives c no_row).letters → x < length (take arity operands)

@@ -12,7 +12,7 @@ use Rattle.properties.specs.Views.{connective_of}
 use Rattle.properties.specs.declared.rows.Connective.{Connective as ConnectiveRow}
 use Rattle.lassos.specs.Rounds.{after}
 use Rattle.lassos.specs.Truths.{round}
-use Rattle.lassos.specs.Sweeps.{Filled, Fits, Partial, Runs, StillFrom, Swept, joined_at, leads, letter_leads, meet, room}
+use Rattle.lassos.specs.Sweeps.{Filled, Partial, Runs, StillFrom, Swept, joined_at, leads, letter_leads, meet, room}
 use Rattle.lassos.proofs.Joins.{join_in, join_keeps, join_out, join_rises, join_small, room_set}
 use Rattle.lassos.proofs.Words.{bit_below, meet_in, meet_out}
 
@@ -61,10 +61,10 @@ module _ (row : ConnectiveRow) (operands bits : List ℕ) (a : ℕ) where
       })
 
   -- one position
-  partial_join : (sets : List ℕ) (i : ℕ) → Fits row → a < length bits → length sets ≡ length bits → i < length bits →
+  partial_join : (sets : List ℕ) (i : ℕ) → a < length bits → length sets ≡ length bits → i < length bits →
       Partial row operands bits a sets → Partial row operands bits a (set sets i (joined_at row operands bits a sets i))
-  partial_join sets i fits la size li p = record {
-    small = at_set (λ j w. w < 256) sets (length bits) i new size li p.small (join_small row operands here there was row.states fits.states (p.small i li));
+  partial_join sets i la size li p = record {
+    small = at_set (λ j w. w < 256) sets (length bits) i new size li p.small (join_small row operands here there was row.states row.few_states (p.small i li));
     finals = λ j q lt t. at_set (λ j w. T (bit w q)) sets (length bits) i new size li (λ j lj. p.finals j q lj t) (join_keeps row operands here there was row.states q (p.finals i q li t)) j lt;
     runs = λ j q lt. at_set (λ j w. T (bit w q) → Runs row operands bits a q j) sets (length bits) i new size li (λ j lj. p.runs j q lj) (joins q) j lt;
   }
@@ -88,11 +88,11 @@ module _ (row : ConnectiveRow) (operands bits : List ℕ) (a : ℕ) where
           (join_out row operands here there was row.states q t)
 
   -- the final states alone
-  pub partial_start : (sets : List ℕ) → Fits row → ((i : ℕ) → i < length bits → get_or sets i 0 ≡ row.finals) → Partial row operands bits a sets
-  partial_start sets fits at = record {
+  pub partial_start : (sets : List ℕ) → row.finals < 2 ^ row.states → ((i : ℕ) → i < length bits → get_or sets i 0 ≡ row.finals) → Partial row operands bits a sets
+  partial_start sets are_states at = record {
     small = λ i lt. omega (arith, at i lt, low);
     finals = λ i q lt t. subst (λ w. T (bit w q)) (sym (at i lt)) t;
-    runs = λ i q lt t. let f : T (bit row.finals q) = subst (λ w. T (bit w q)) (at i lt) t in fold_final C O L q i (bit_below row.finals row.states q fits.finals f) f;
+    runs = λ i q lt t. let f : T (bit row.finals q) = subst (λ w. T (bit w q)) (at i lt) t in fold_final C O L q i (bit_below row.finals row.states q are_states f) f;
   }
     where
       C : Connective
@@ -106,18 +106,18 @@ module _ (row : ConnectiveRow) (operands bits : List ℕ) (a : ℕ) where
 
       low : row.finals < 256
       low = ⊎_elim
-          (λ l. let p = pow-lt l in omega (arith, fits.finals))
-          (λ g. let s : row.states ≡ 8 = omega (arith, fits.states) in let p = ap (λ x. 2 ^ x) s in omega (arith, fits.finals))
+          (λ l. let p = pow-lt l in omega (arith, are_states))
+          (λ g. let s : row.states ≡ 8 = omega (arith, row.few_states) in let p = ap (λ x. 2 ^ x) s in omega (arith, are_states))
           (cases_lt row.states 8)
 
-  module _ (was sets sets' : List ℕ) (i : ℕ) (more r : Bool) (fits : Fits row) (la : a < length bits) (size : length sets ≡ length bits) (some : 0 < i) (li : i ≤ length bits)
+  module _ (was sets sets' : List ℕ) (i : ℕ) (more r : Bool) (la : a < length bits) (size : length sets ≡ length bits) (some : 0 < i) (li : i ≤ length bits)
       (s : Swept row operands bits a was sets i more)
       (becomes : sets' ≡ set sets (i - 1) (joined_at row operands bits a sets (i - 1)))
       (is : r ≡ not (eqb (joined_at row operands bits a sets (i - 1)) (get_or sets (i - 1) 0))) where
     -- something joined
     pub swept_more : r ≡ true → Swept row operands bits a was sets' (i - 1) true
     swept_more e = record {
-      partial = subst (Partial row operands bits a) (sym becomes) (partial_join sets (i - 1) fits la size (omega arith) s.partial);
+      partial = subst (Partial row operands bits a) (sym becomes) (partial_join sets (i - 1) la size (omega arith) s.partial);
       grown = λ _. ⊎_elim (λ t. omega (arith, less, s.grown t)) (λ f. omega (arith, less, ap room (s.kept f))) (cases_Bool more);
       kept = λ f. absurd (both_ways _ f refl);
       still = λ f. absurd (both_ways _ f refl);

@@ -16,10 +16,6 @@ use Rattle.lassos.specs.Sweeps.{meet}
 pub true_T : {b : Bool} → b ≡ true → T b
 true_T e = subst T (sym e) tt
 
-pub T_true : (b : Bool) → T b → b ≡ true
-T_true true t = refl
-T_true false t = absurd t
-
 -- a truth value as a word
 pub low_bit : (b : Bool) → bit (from_bool b) 0 ≡ b
 low_bit true = refl

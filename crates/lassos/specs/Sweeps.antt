@@ -8,12 +8,6 @@ use Rattle.properties.specs.declared.rows.Connective.{Connective as ConnectiveRo
 use Rattle.lassos.specs.Rounds.{after}
 use Rattle.lassos.specs.Truths.{round}
 
--- a connective has few states and letters, and its final states are states
-pub record Fits (row : ConnectiveRow) : Type 0 where
-  pub states : row.states ≤ 8
-  pub letters : row.letters ≤ 4
-  pub finals : row.finals < 2 ^ row.states
-
 -- two masks have a bit in common
 abbrev pub meet : ℕ → ℕ → Bool
 meet x y = not (bit_and x y == 0)

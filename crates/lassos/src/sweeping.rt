@@ -1,6 +1,6 @@
 //! From which states a connective is fulfilled at each position.
-ghost use Rattle.std.specs.Prelude.{◌≡◌, ◌<◌, not, length, ◌==◌, slice_index, slice_set};
-ghost use Rattle.lassos.specs.Sweeps.{Filled, Fits, Partial, Swept, joined, joined_at, leads, letter_leads};
+ghost use Rattle.std.specs.Prelude.{◌≡◌, ◌^◌, ◌<◌, not, length, ◌==◌, slice_index, slice_set};
+ghost use Rattle.lassos.specs.Sweeps.{Filled, Partial, Swept, joined, joined_at, leads, letter_leads};
 
 use crate::shape::Rounds;
 use masks::has;
@@ -11,7 +11,7 @@ use properties::Connective;
 pub(crate) struct Applied {
     pub(crate) row: Connective,
     pub(crate) operands: [u8; 4],
-    ghost fits: { Fits row },
+    ghost final_states: { row.finals < 2 ^ row.states },
 }
 
 impl Applied {

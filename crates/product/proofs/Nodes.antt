@@ -76,9 +76,6 @@ module _ (p : Stored) where
     operand_is : (a : ℕ) → a < (connective c).letters → get_or is a 0 ≡ get_or (take arity is) a 0
     operand_is a la = let n = letters_are in let m = length-take arity is in sym (get_or-take arity is a 0 (omega arith))
 
-    pub operand_low : (a : ℕ) → a < (connective c).letters → get_or is a 0 < k
-    operand_low a la = subst (λ i. i < k) (sym (operand_is a la)) (fit.2 a (subst (λ n. a < n) (sym letters_are) la))
-
     pub start_state : (connective c).start < (connective c).states
     start_state = subst (λ (x : Connective). x.start < x.states) connective_is (start_fits f (formed p) c fit.0)
 

@@ -7,7 +7,3 @@ use Rattle.logic.specs.Product.{start_of}
 -- `starts` has the number of the first bit of each node
 abbrev pub Starts : Stored → List ℕ → Type 0
 Starts p starts = (k : ℕ) → k < p.rows.count → slice_index starts k ≡ start_of (meaning p) k
-
--- the first n numbers of a list are below the limit
-abbrev pub Below : (numbers : List ℕ) (n limit : ℕ) → Type 0
-Below numbers n limit = (a : ℕ) → a < n → slice_index numbers a < limit

@@ -1,5 +1,5 @@
 -- The loop of the shadow of a fair lasso that falsifies is an accepting strongly connected set.
-use mathlib.Core.Path.{◌≡◌, sym, ap, ap₂, subst, ◌∙◌}
+use mathlib.Core.Path.{◌≡◌, sym, ap₂, subst, ◌∙◌}
 use mathlib.Core.Bool.{Bool, ◌&&◌}
 use mathlib.Core.List.{[], ◌∷◌, ◌++◌}
 use Prim.Native.Nat.{ℕ, zero, suc, ◌+◌, ◌-◌, ◌<◌, ◌≤◌}
@@ -13,8 +13,8 @@ use Rattle.logic.specs.OnLassos.{lasso_line}
 use Rattle.logic.specs.Product.{some_below}
 use Rattle.logic.specs.Paths.{Shadow, sat_at, in_lasso}
 use Rattle.logic.proofs.Bools.{T_and, and_T, some_in, some_out}
-use Rattle.logic.proofs.Followers.{follower_in, last_follower, next_follower}
-use Rattle.logic.proofs.OnLassos.{none_in_product}
+use Rattle.logic.proofs.Followers.{follower_in}
+use Rattle.logic.proofs.OnLassos.{comes_to_stem, none_in_product}
 use Rattle.tableau.specs.Walks.{Vertex, ProductWalk, ProductReaches, StronglyConnected, everywhere, vertex_over}
 use Rattle.tableau.specs.Walks.ProductWalk.{stop, leave}
 use Rattle.tableau.specs.Criterion.{AcceptingComponent, Criterion}
@@ -22,12 +22,6 @@ use Rattle.tableau.proofs.Walking.{walk_append}
 use Rattle.tableau.proofs.Complete.{complete, shadow_edge, loop_follower}
 use Rattle.tableau.proofs.Finishing.{later_in}
 use Rattle.tableau.proofs.Building.{sound}
-
--- each position comes to the first loop position
-comes_to_stem : (m : Kripke) (p : Lasso) (j i : ℕ) → suc (j + i) ≡ p.stem + p.loop → later (lasso_line m p) (suc j) i ≡ p.stem
-comes_to_stem m p zero i e = last_follower p i (omega arith)
-comes_to_stem m p (suc j) i e =
-    ap (later (lasso_line m p) (suc j)) (next_follower p i (omega arith)) ∙ comes_to_stem m p j (suc i) (omega arith)
 
 -- the vertices over the loop
 abbrev on_loop : Lasso → (ℕ → ℕ) → Vertex → Bool

@@ -18,6 +18,7 @@ use Rattle.logic.specs.Truth.{node_at, root, Line, Fulfilled, later}
 use Rattle.logic.specs.OnLassos.{lasso_line}
 use Rattle.logic.specs.Product.{sat, claim}
 use Rattle.logic.specs.Paths.{MaskEdge, ProductPath, FulfilsAt, sat_at, in_lasso}
+use Rattle.logic.proofs.Bools.{T_true}
 use Rattle.logic.proofs.Unfold.{fold_final, fold_step}
 use Rattle.logic.proofs.Followers.{next_follower, follower_in}
 use Rattle.logic.proofs.OnLassos.{one_time_lasso, product_falsifies}
@@ -25,7 +26,7 @@ use Rattle.tableau.specs.Walks.{Vertex, Edge, ProductWalk, Obligation, everywher
 use Rattle.tableau.specs.Walks.ProductWalk.{stop, leave}
 use Rattle.tableau.specs.Rounds.{FulfilledAlong, Visits, Finishes, lasso_along, no_vertex}
 use Rattle.tableau.specs.Rounds.FulfilledAlong.{ended, moved}
-use Rattle.tableau.proofs.Tests.{T_dec, is_true}
+use Rattle.tableau.proofs.Tests.{T_dec}
 use Rattle.tableau.proofs.Walking.{mask_edge, walk_append, walk_first, walk_edge}
 
 -- a walk inside a set is a walk
@@ -44,7 +45,7 @@ module _ (m : Kripke) (f : Property) (wf : WellFormed f) (c : ℕ) (is : List �
   done_fulfilled (ended {q = q} t) fits i over = fold_final (connective_at f.connectives c) (λ a j. T (sat_at f l mask (get_or is a 0) j)) l q i fits t
   done_fulfilled (moved {q = q} {u = u} {vs = vs} a r t h rest) fits i over =
       let here = over 0 (suc-le-suc zero-le) in
-      let bounds = wf.moves_fit c q a r (is_true ((connective_at f.connectives c).may q a r) t) in
+      let bounds = wf.moves_fit c q a r (T_true ((connective_at f.connectives c).may q a r) t) in
       fold_step (connective_at f.connectives c) (λ a j. T (sat_at f l mask (get_or is a 0) j)) l q i (record {
         letter = a;
         to = r;

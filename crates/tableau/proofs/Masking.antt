@@ -15,7 +15,7 @@ use Rattle.masks.specs.Masks.{bit}
 use Rattle.language.specs.Properties.{Connective, Property, WellFormed, connective_at, node_width}
 use Rattle.logic.specs.Truth.{node_at}
 use Rattle.logic.specs.Product.{mask_of, some_below}
-use Rattle.logic.proofs.Bools.{T_and, and_T, some_in, some_out}
+use Rattle.logic.proofs.Bools.{T_and, T_true, and_T, some_in, some_out}
 use Rattle.logic.proofs.Fits.{NodeFits, fits_at, start_fits}
 use Rattle.logic.proofs.Masks.{mask_fits, mask_bit, mask_same, mask_whole}
 use Rattle.tableau.specs.Walks.{Vertex, ProductWalk, Discharges, Obligation, DischargedAt, claimed_at}
@@ -23,7 +23,7 @@ use Rattle.tableau.specs.Walks.ProductWalk.{stop, leave}
 use Rattle.tableau.specs.Walks.Discharges.{discharged, goes}
 use Rattle.tableau.specs.Rounds.{FulfilledAlong, Runs, PartialLoop, Rounded, count, carry, carried, carry_along, without, pending, pending_node}
 use Rattle.tableau.specs.Masked.{pending_mask, carried_mask, carried_along, MaskRounded, Masked}
-use Rattle.tableau.proofs.Tests.{T_dec, is_true}
+use Rattle.tableau.proofs.Tests.{T_dec}
 use Rattle.tableau.proofs.Counts.{count_le, count_misses}
 use Rattle.tableau.proofs.Walking.{apply_in}
 use Rattle.tableau.proofs.Walking.{discharges_walk}
@@ -85,7 +85,7 @@ mask_without (suc n) p q h t = go (eqb q n) refl (λ lt. mask_without n p q lt t
         mask_of (suc n) p ≡ cond (without q p n) 1 0 * 2 ^ n + mask_of n (without q p) + 2 ^ q
     go true e ih =
         let same : q ≡ n = eqb→eq q n (subst T (sym e) tt) in
-        let set : p n ≡ true = is_true (p n) (subst (λ i. T (p i)) same t) in
+        let set : p n ≡ true = T_true (p n) (subst (λ i. T (p i)) same t) in
         let clear : without q p n ≡ false = gone (p n) (eqb n q) (subst (λ i. T (eqb n i)) (sym same) (eqb_refl n)) in
         let rest : mask_of n p ≡ mask_of n (without q p) = sym (mask_same n (without q p) p (λ i lt. other_if i (λ x. let z : i ≡ q = x in omega arith))) in
         let pow : 2 ^ q ≡ 2 ^ n = ap (λ i. 2 ^ i) same in

@@ -15,7 +15,7 @@ use Rattle.masks.specs.Masks.{bit}
 use Rattle.language.specs.Properties.{Connective, Property, connective_at, node_width}
 use Rattle.logic.specs.Truth.{node_at}
 use Rattle.logic.specs.Product.{claim_of, some_below, sat, start_of}
-use Rattle.logic.proofs.Bools.{T_and, and_T, T_or_left, T_or_right, or_T, some_in, some_out}
+use Rattle.logic.proofs.Bools.{T_and, T_true, and_T, T_or_left, T_or_right, or_T, some_in, some_out}
 use Rattle.logic.proofs.Spread.{start_mono}
 use Rattle.logic.proofs.Claims.{claim_is, claim_final, apply_back}
 use Rattle.graphs.specs.Walks.{Walk}
@@ -24,7 +24,7 @@ use Rattle.tableau.specs.Walks.ProductWalk.{stop, leave}
 use Rattle.tableau.specs.Walks.Discharges.{discharged, goes}
 use Rattle.tableau.specs.Rounds.{leads}
 use Rattle.tableau.specs.Numbers.{number_of, vertex_of, vertices, product_edge, inner_edge, of_numbers, ends_now, moves_node, layer_step, obligation_edge_at, obligation_edge, layered, left_on, ObligationGraph}
-use Rattle.tableau.proofs.Tests.{T_dec, T_not, not_T, is_true}
+use Rattle.tableau.proofs.Tests.{T_dec, T_not, not_T}
 use Rattle.tableau.proofs.Walking.{mask_edge, apply_in, walk_from, discharges_walk}
 use Rattle.tableau.proofs.Trails.{Trail, to_trail, from_trail}
 use Rattle.tableau.proofs.Trails.Trail.{last, then}
@@ -282,7 +282,7 @@ module _ (m : Kripke) (f : Property) (G : ℕ → Bool) where
   obligation_edge_of u v edge su sv a b t =
       (λ i. obligation_edge_at m f G (layer_mod m f (number_of f u) a low i) (layer_mod m f (number_of f v) b high i)
       (layer_div m f (number_of f u) a low i) (layer_div m f (number_of f v) b high i))
-      ∙ is_true (obligation_edge_at m f G (number_of f u) (number_of f v) a b)
+      ∙ T_true (obligation_edge_at m f G (number_of f u) (number_of f v) a b)
       (T_and (product_edge m f (number_of f u) (number_of f v) && (G (number_of f u) && G (number_of f v))) (layer_step m f (vertex_of f (number_of f u)) a b)
       (T_and (product_edge m f (number_of f u) (number_of f v)) (G (number_of f u) && G (number_of f v)) (edge_number m f u v edge)
       (T_and (G (number_of f u)) (G (number_of f v)) (number_out f G u su) (number_out f G v sv)))
@@ -349,7 +349,7 @@ module _ (m : Kripke) (f : Property) (G : ℕ → Bool) where
       let hx : x < vertices m f = ltb→lt x (vertices m f) one.0 in
       let hy : y < vertices m f = ltb→lt y (vertices m f) two.0 in
       (λ i. obligation_edge_at m f G (mod-eq_of_lt hx i) (mod-eq_of_lt hy i) (div-eq_of_lt hx i) (div-eq_of_lt hy i))
-      ∙ is_true (obligation_edge_at m f G x y 0 0) (T_and (inner_edge m f G x y) (layer_step m f (vertex_of f x) 0 0) (subst T (sym e) tt) tt)
+      ∙ T_true (obligation_edge_at m f G x y 0 0) (T_and (inner_edge m f G x y) (layer_step m f (vertex_of f x) 0 0) (subst T (sym e) tt) tt)
 
   -- so is a walk
   lower_trail : {x y : ℕ} {l : List ℕ} → Trail (inner_edge m f G) x l y → Trail (obligation_edge m f G) x l y
@@ -362,7 +362,7 @@ module _ (m : Kripke) (f : Property) (G : ℕ → Bool) where
   inner_trail (leave {u = u} {v = v} s edge a) =
       let r = inner_trail a in (
         number_of f u ∷ r.0,
-        then (is_true (inner_edge m f G (number_of f u) (number_of f v))
+        then (T_true (inner_edge m f G (number_of f u) (number_of f v))
             (T_and (product_edge m f (number_of f u) (number_of f v)) (G (number_of f u) && G (number_of f v)) (edge_number m f u v edge)
             (T_and (G (number_of f u)) (G (number_of f v)) (number_out f G u s) (number_out f G v (walk_from m f (of_numbers f G) a))))) r.1,
       )

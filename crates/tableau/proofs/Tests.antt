@@ -1,5 +1,4 @@
 -- More on tests: each passes or does not.
-use mathlib.Core.Path.{◌≡◌, refl}
 use mathlib.Core.Bool.{Bool, true, false, not}
 use mathlib.Core.Logic.{◌⊎◌, inl, inr}
 use lib.Dec.{T}
@@ -17,8 +16,3 @@ T_not false n = tt
 pub not_T : (b : Bool) → T (not b) → ¬ T b
 not_T true t s = t
 not_T false t s = s
-
--- a test that passes is true
-pub is_true : (b : Bool) → T b → b ≡ true
-is_true true t = refl
-is_true false t = absurd t

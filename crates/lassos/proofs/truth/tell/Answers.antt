@@ -1,6 +1,6 @@
 use Rattle.std.proofs.Common.{length, get_or, sym, refl, arith}
 use Rattle.properties.specs.declared.rows.Node.TheVariants.{True}
-use Rattle.lassos.proofs.Nodes.{connective_row_fits, read_row, row_in, simple_from, tells_filled, tells_marked}
+use Rattle.lassos.proofs.Nodes.{final_states, read_row, row_in, simple_from, tells_filled, tells_marked}
 use Rattle.lassos.proofs.truth.tell.Goals as goal
 
 pub bounds-property-connective : goal.bounds-property-connective
@@ -12,7 +12,7 @@ listed g c = omega (arith, row_in c.args.property.now c.args.k c.in-Apply.connec
 pub invariant_of-fulfil : goal.invariant_of-fulfil
 invariant_of-fulfil g c =
     let same = read_row c.args.property.now c.args.k c.in-Apply.connective c.in-Apply.arity c.in-Apply.operands (omega arith) (sym c.in-Apply.is) c.index-property-connective.result in
-    record { fits = rw same (connective_row_fits c.args.property.now c.args.k c.in-Apply.connective c.in-Apply.arity c.in-Apply.operands (omega arith) (sym c.in-Apply.is)) }
+    record { final_states = rw same (final_states c.args.property.now c.args.k c.in-Apply.connective c.in-Apply.arity c.in-Apply.operands (omega arith) (sym c.in-Apply.is)) }
 
 pub returns-in-Apply : goal.returns-in-Apply
 returns-in-Apply g c =

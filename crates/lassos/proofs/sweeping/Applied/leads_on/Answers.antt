@@ -1,7 +1,7 @@
 use Rattle.std.proofs.Common.{sym, ◌∙◌}
-use Rattle.logic.proofs.Bools.{some_in}
+use Rattle.logic.proofs.Bools.{T_true, some_in}
 use Rattle.lassos.specs.Sweeps.{letter_leads}
-use Rattle.lassos.proofs.Words.{T_true, true_T}
+use Rattle.lassos.proofs.Words.{true_T}
 use Rattle.lassos.proofs.sweeping.Applied.leads_on.Goals as goal
 
 pub returns-then-letter_leads : goal.returns-then-letter_leads
