@@ -5,10 +5,12 @@ mod cleaning;
 mod exploring;
 pub mod finding;
 pub mod graph;
+mod passing;
 pub mod paths;
 mod tracing;
 
 pub use cleaning::clear;
 pub use finding::Finder;
 pub use graph::Graph;
+pub use passing::next_that;
 pub use paths::path;
