@@ -49,10 +49,8 @@ pub fn judge<M: Model>(
     if scratch.len() < 3 * list.len() {
         return Err(Refusal::Scratch);
     }
-    let answer = match Rounds::new(list, a, b) {
-        Some(rounds) => is_counterexample(property, model, &rounds, scratch),
-        None => false,
-    };
+    let rounds = Rounds::new(list, a, b);
+    let answer = rounds.is_some_and(|rounds| is_counterexample(property, model, &rounds, scratch));
     scratch.fill(0);
     Ok(answer)
 }
