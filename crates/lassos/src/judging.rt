@@ -49,9 +49,8 @@ pub fn judge<M: Model>(
     if scratch.len() < 3 * list.len() {
         return Err(Refusal::Scratch);
     }
-    let answer = Rounds::new(list, a, b).is_some_and(|rounds| is_counterexample(
-        property, model, &rounds, scratch,
-    ));
+    let rounds = Rounds::new(list, a, b);
+    let answer = rounds.is_some_and(|rounds| is_counterexample(property, model, &rounds, scratch));
     scratch.fill(0);
     Ok(answer)
 }
