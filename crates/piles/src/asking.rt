@@ -114,7 +114,7 @@ fn pile(rt: &HostRuntime, table: &Table<'_>, kind: &str, args: &[u32]) -> anyhow
 }
 
 // Answers a question: its kind, and then its numbers; a judge's property stands before them.
-pub fn ask(rt: &HostRuntime, table: &Table<'_>, question: &str) -> anyhow::Result<()> {
+pub(crate) fn ask(rt: &HostRuntime, table: &Table<'_>, question: &str) -> anyhow::Result<()> {
     let (kind, rest) = question.split_once(' ').unwrap_or((question, ""));
     if kind == "judge" {
         let (text, words) = rest.split_once(' ').unwrap_or((rest, ""));

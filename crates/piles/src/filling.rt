@@ -21,7 +21,7 @@ fn bytes_of(heap: Global, line: &str) -> anyhow::Result<Vec<u8>> {
 }
 
 // The numbers of a text, parted by blanks.
-pub fn words_of(heap: Global, text: &str) -> anyhow::Result<Vec<u32>> {
+pub(crate) fn words_of(heap: Global, text: &str) -> anyhow::Result<Vec<u32>> {
     let mut all = Vec::new(heap);
     for word in text.split(' ') {
         if !word.is_empty() {
@@ -32,7 +32,7 @@ pub fn words_of(heap: Global, text: &str) -> anyhow::Result<Vec<u32>> {
 }
 
 // The table that its lines fill, sealed, or the refusal of the first line that is refused.
-pub fn fill(
+pub(crate) fn fill(
     heap: Global,
     lines: &str,
     store: &mut [u32],
