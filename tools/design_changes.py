@@ -111,20 +111,10 @@ def fence(s):
 
 # where what a name promised stands now
 MOVED = {
-    ("components", "advance"): ("components", "Exploration::advance"),
-    ("components", "start"): ("components", "Exploration::start"),
-    ("components", "retire"): ("components", "Exploration::retire"),
-    ("components", "clear"): ("components", "Exploration::new"),
-    ("components", "push"): "private: `Exploration::push`, with the same promises",
-    ("components", "explore"): "private: `Exploration::explore`, with the same promises (`ExploredFrom`)",
-    ("components", "next_pending"): "private: `Exploration::next_pending`",
-    ("components", "segment_of"): "private: `Exploration::segment_of`",
-    ("decision", "reaches"): ("graphs", "Finder::reaches"),
+    ("decision", "reaches"): ("graphs", "reaches"),
     ("decision", "bit_walked"): ("obligations", "Obligations::bit_walked"),
     ("frames", "put"): ("frames", "Writer::put"),
     ("frames", "put_number"): ("frames", "Writer::put_number"),
-    ("graphs", "find"): ("graphs", "Finder::find"),
-    ("graphs", "reaches"): ("graphs", "Finder::reaches"),
     ("loops", "write_lasso"): ("loops", "Accepted::write_lasso"),
     ("obligations", "accepts"): ("obligations", "Obligations::accepts"),
     ("obligations", "lies"): ("obligations", "Segment::holds"),
@@ -137,14 +127,13 @@ MOVED = {
     ("models", "bit"): ("masks", "has"),
 }
 
-PLAIN = "Went: each step structure is a `Graph` itself, so no wrapper and no second trait stands between. What `Steps` asked of `states` and `next`, `Graph` asks; what `ready` asked at each question is now a fact of the types `Indexed` and `Obligations`."
 GRAPH = "Now an `impl Graph` for the same type."
 TABLEAU = "Said twice before, in two wordings: `vertices`, `product_edge`, `number_of` and `vertex_of` of `tableau` (specs/Numbers) stand for both."
 BOUNDS = "Stands as before, in a module over the bounds of the struct, whose model type is now a parameter."
+NARROWED = "The same function, seen in its program alone (`pub(crate)`)."
 GONE = {
-    ("graphs", "Plain::next"): PLAIN, ("graphs", "Plain::states"): PLAIN, ("graphs", "Steps::next"): PLAIN, ("graphs", "Steps::states"): PLAIN,
-    ("graphs", "impl<'a, G: Graph> Steps for Plain<'a, G>"): PLAIN, ("graphs", "type Plain"): PLAIN,
     ("models", "nearer"): "Went with the loop that it served: `lowest` says which second state is the lowest, by the library's `filter` and `reduce min`.",
+    ("piles", "ask"): NARROWED, ("piles", "fill"): NARROWED, ("piles", "words_of"): NARROWED,
     ("models", "zero"): "Went: `fill(0)` of the library writes the zeros.",
     ("models", "bit"): "One definition for all crates: `bit` of `masks`.",
     ("language", "bit"): "One definition for all crates: `bit` of `masks`, of the same text.",
@@ -152,7 +141,7 @@ GONE = {
     ("obligations", "impl<'a, 'b, 'c, 'd, M: Model> Steps for Obligations<'a, 'b, 'c, 'd, M>"): GRAPH,
     ("product", "impl<'a, 'b, 'c, M: Model> Steps for Indexed<'a, 'b, 'c, M>"): GRAPH,
     ("docket", "made"): "`option_map` of the library, with `got` and `granted`.",
-    ("loops", "FinderWords"): "What it said of the finder's words is the invariant of `Finder`, and the room a clause.",
+    ("loops", "FinderWords"): "What it said of the finder's words is a fact of the type `Finder` and the clauses by `SameWords`; the room is a clause by `room` of `graphs`.",
     ("obligations", "index_in"): BOUNDS, ("obligations", "model_in"): BOUNDS, ("obligations", "property_in"): BOUNDS, ("obligations", "set_in"): BOUNDS,
     ("product", "mask_in"): TABLEAU, ("product", "product_edge"): TABLEAU, ("product", "state_of"): TABLEAU, ("product", "vertex"): TABLEAU, ("product", "vertices"): TABLEAU,
     ("lassos", "Fits"): "Its facts on states and letters are those of the type `Connective`; that final states are states is the ghost field `final_states` of `Applied`.",

@@ -36,7 +36,8 @@ front_refusal : (r : Result ℕ Refusal) (bytes : List ℕ) → refusal_in (fron
 front_refusal (Ok n) bytes = refl
 front_refusal (Err why) bytes = refl
 
-show_takes : (d : View) (number : ℕ) (area area' : List ℕ) (r : Result ℕ Refusal) → Shown d number area area' r → WasShown d number (length area) (front r area') d
+-- what the call of a show ensures is what the law says of it: refused as the table says, with the canonical text, and nothing changes
+pub show_takes : (d : View) (number : ℕ) (area area' : List ℕ) (r : Result ℕ Refusal) → Shown d number area area' r → WasShown d number (length area) (front r area') d
 show_takes d number area area' r w = record {
   refusal = front_refusal r area' ∙ w.refusal;
   text = shown_text r (d.rows number) area area' w.left;
@@ -80,7 +81,8 @@ module _ (d : View) (m : Kripke) (number : ℕ) (scratch scratch' trace trace' :
     same = same d;
   }
 
-  check_takes : (r : Result Verdict Refusal) → CheckedAs m (found d.rows number) scratch scratch' trace trace' r → WasChecked d m number (length scratch) (length trace) (findings r trace') d
+  -- what the call of a check ensures is what the law says of it: refused as the table says, sound, and nothing changes
+  pub check_takes : (r : Result Verdict Refusal) → CheckedAs m (found d.rows number) scratch scratch' trace trace' r → WasChecked d m number (length scratch) (length trace) (findings r trace') d
   check_takes r w = check_found (found d.rows number) r refl w
 
   pub check_went : (o : Option (Result Verdict Refusal)) (r : Result Verdict Refusal) → o ≡ Some r → CheckedAs m (found d.rows number) scratch scratch' trace trace' r → WentByLaw d (option_map (λ a. check m number (length scratch) (length trace) (findings a trace')) o) d

@@ -1,41 +1,63 @@
 -- Laws of the lines that a text is cut into.
-use Rattle.std.proofs.Common.{◌≡◌, ℕ, zero, suc, ◌+◌, ◌<◌, ◌≤◌, Bool, true, false, cond, not, eqb, List, [], ◌∷◌, length, get_or, take, drop, Ok, Err, None, Some, sym, refl, ap, ◌∙◌, arith}
-use Rattle.std.proofs.lemmas.Bool.{cond-true, cond-false, ltb-false}
-use Rattle.std.specs.List.{position, position_or_len}
+use Rattle.std.proofs.Common.{◌≡◌, ℕ, zero, suc, ◌+◌, ◌-◌, ◌<◌, ◌≤◌, Bool, true, false, cond, eqb, List, [], ◌∷◌, length, get_or, take, drop, Ok, Err, None, Some, sym, refl, ap, ◌∙◌, arith}
+use Rattle.std.proofs.lemmas.Bool.{cond-true, cond-false, eq-eqb, eqb-false, eqb-true, ltb-false, ne_eqb}
+use Rattle.std.proofs.lemmas.List.{length-drop, get_or-drop}
+use Rattle.std.proofs.lemmas.List.Sums.{fails_before_first}
+use Rattle.std.specs.List.{position}
 use Rattle.std.proofs.lemmas.List.Quantifiers.{position-Some}
 use Rattle.frames.specs.declared.faults.LineFault.TheVariants.{Digits, Unclosed}
 use Rattle.frames.specs.Lines.{Text, cut, first_line, line_of, onto, proper}
 
 -- a text whose first 0A stands at k: the line before it, and the lines of what comes after
-cut_at : (text : List ℕ) (k : ℕ) → k < length text → eqb (get_or text k 0) 10 ≡ true → ((j : ℕ) → j < k → eqb (get_or text j 0) 10 ≡ false) → cut text ≡ record { lines = take k text ∷ (cut (drop (suc k) text)).lines; rest = (cut (drop (suc k) text)).rest }
+pub cut_at : (text : List ℕ) (k : ℕ) → k < length text → get_or text k 0 ≡ 10 → ((j : ℕ) → j < k → get_or text j 0 ≡ 10 → ⊥) → cut text ≡ record { lines = take k text ∷ (cut (drop (suc k) text)).lines; rest = (cut (drop (suc k) text)).rest }
 cut_at [] k l e free = absurd (omega arith)
-cut_at (b ∷ text) zero l e free = rw e refl
+cut_at (b ∷ text) zero l e free = let t = eq-eqb b 10 e in rw t refl
 cut_at (b ∷ text) (suc k) l e free =
-    let t = free 0 (omega arith) in
+    let t = ne_eqb b 10 (free 0 (omega arith)) in
     let r = cut_at text k (omega arith) e (λ j lt. free (suc j) (omega arith)) in
     rw (t, r) refl
 
--- then the bytes before it are the first line
+-- a text without a 0A is all rest
+pub cut_none : (text : List ℕ) → ((j : ℕ) → j < length text → get_or text j 0 ≡ 10 → ⊥) → cut text ≡ record { lines = []; rest = text }
+cut_none [] free = refl
+cut_none (b ∷ text) free =
+    let t = ne_eqb b 10 (free 0 (omega arith)) in
+    let r = cut_none text (λ j lt. free (suc j) (omega arith)) in
+    rw (t, r) refl
+
+-- the first 0A from `at` on stands at e
+pub record Ends (text : List ℕ) (at e : ℕ) : Type 0 where
+  pub from : at ≤ e
+  pub within : e < length text
+  pub closed : get_or text e 0 ≡ 10
+  pub free : (k : ℕ) → at ≤ k → k < e → get_or text k 0 ≡ 10 → ⊥
+
+-- then the bytes up to it are the first line of what begins at `at`
+pub lines_at : (text : List ℕ) (at e : ℕ) → Ends text at e → (cut (drop at text)).lines ≡ take (e - at) (drop at text) ∷ (cut (drop (suc (e - at)) (drop at text))).lines
+lines_at text at e h =
+    let f = h.from in
+    let w = h.within in
+    let g : at + (e - at) ≡ e = omega arith in
+    let long : e - at < length (drop at text) = simp length-drop (omega arith) in
+    let shut : get_or (drop at text) (e - at) 0 ≡ 10 = get_or-drop at text (e - at) 0 ∙ ap (λ i. get_or text i 0) g ∙ h.closed in
+    let clear : (j : ℕ) → j < e - at → get_or (drop at text) j 0 ≡ 10 → ⊥ = λ j lt is. h.free (at + j) (omega arith) (omega arith) (sym (get_or-drop at text j 0) ∙ is) in
+    ap (λ t. t.lines) (cut_at (drop at text) (e - at) long shut clear)
+
+-- a text whose first 0A the library's `position` finds at k: the bytes before it are the first line
 pub line_closed : (n : ℕ) (text : List ℕ) (k : ℕ) → position (λ b. eqb b 10) text ≡ Some k → first_line n text ≡ cond (proper (take k text)) (Ok (take k text)) (Err (Digits n))
 line_closed n text k e =
     let h = position-Some (λ b. eqb b 10) text k 0 e in
-    ap (λ t. line_of n t.lines) (cut_at text k h.0 h.1 h.2)
-
--- a text without a 0A has no line
-no_line : (text : List ℕ) → length text ≤ position_or_len (λ b. eqb b 10) text → (cut text).lines ≡ []
-no_line [] h = refl
-no_line (b ∷ text) h = byte (eqb b 10) refl h (no_line text)
-  where
-    byte : (t : Bool) → eqb b 10 ≡ t → suc (length text) ≤ cond (not t) (1 + position_or_len (λ b. eqb b 10) text) 0 → (length text ≤ position_or_len (λ b. eqb b 10) text → (cut text).lines ≡ []) → (cut (b ∷ text)).lines ≡ []
-    byte true e h rest = absurd (omega arith)
-    byte false e h rest = let r = rest (omega arith) in rw (e, r) refl
+    ap (λ t. line_of n t.lines) (cut_at text k h.0 (eqb-true _ _ h.1) (λ j lt. eqb-false _ _ (h.2 j lt)))
 
 absent : (t : Bool) (k : ℕ) → cond t (Some k) None ≡ None → t ≡ false
 absent true k e = cc
 absent false k e = refl
 
+-- where it finds none, the text has no line
 pub line_open : (n : ℕ) (text : List ℕ) → position (λ b. eqb b 10) text ≡ None → first_line n text ≡ Err (Unclosed n)
-line_open n text e = ap (line_of n) (no_line text (ltb-false _ _ (absent _ _ e)))
+line_open n text e =
+    let past = ltb-false _ _ (absent _ _ e) in
+    ap (λ t. line_of n t.lines) (cut_none text (λ j lt. eqb-false _ _ (fails_before_first (λ b. eqb b 10) text j 0 (omega arith))))
 
 onto_lines : (b : ℕ) (ls : List (List ℕ)) (r : List ℕ) (line : List ℕ) (lines : List (List ℕ)) → (onto b ls r).lines ≡ line ∷ lines → (l : List ℕ) × (ls ≡ l ∷ lines) × (line ≡ b ∷ l) × ((onto b ls r).rest ≡ r)
 onto_lines b [] r line lines e = let z : ◌≡◌ {A = ℕ} 0 1 = cc in absurd (omega arith)

@@ -41,6 +41,10 @@ written_append area at (x ∷ xs) ys =
     let e : at + length (x ∷ xs) ≡ suc at + length xs = omega arith in
     ap (λ p. written (written (set area at x) (suc at) xs) p ys) e ∙ written_append (set area at x) (suc at) xs ys
 
+-- what two writings leave, the other from where the first ended
+pub written_both : (area : List ℕ) (at : ℕ) (xs ys : List ℕ) {first after : List ℕ} {place : ℕ} → first ≡ written area at xs → place ≡ at + length xs → after ≡ written first place ys → after ≡ written area at (xs ++ ys)
+written_both area at xs ys f p g = g ∙ ap₂ (λ (r : List ℕ) (k : ℕ). written r k ys) f p ∙ written_append area at xs ys
+
 set_at_length : (p area : List ℕ) (b : ℕ) → set (p ++ area) (length p) b ≡ p ++ set area 0 b
 set_at_length [] area b = refl
 set_at_length (x ∷ p) area b = ap (λ r. x ∷ r) (set_at_length p area b)
@@ -85,7 +89,7 @@ length_hexadecimal (suc n) v = ap (λ k. suc k) (length_hexadecimal n v)
 pub writes_both : {a b c : Writer} {xs ys : List ℕ} → Writes a b xs → Writes b c ys → Writes a c (xs ++ ys)
 writes_both {a} {b} {c} {xs} {ys} f g = record {
   same_area = g.same_area ∙ f.same_area;
-  area = g.area ∙ ap₂ (λ (r : List ℕ) (p : ℕ). written r p ys) f.area f.place ∙ written_append a.area.now a.at xs ys;
+  area = written_both a.area.now a.at xs ys f.area f.place g.area;
   place = simp length-append (omega (arith, f.place, g.place));
 }
 

@@ -1,5 +1,6 @@
 //! Hexadecimal digits, read and written.
 ghost use Rattle.std.specs.Prelude.{◌≡◌, ℕ, ◌+◌, ◌^◌, ◌<◌, ◌≤◌, [], ◌∷◌, length};
+ghost use Rattle.frames.specs.Areas.{written};
 ghost use Rattle.frames.specs.Digits.{digit_of, digit_value, hexadecimal, value};
 
 // The value of a digit, or None for any other byte.
@@ -22,9 +23,35 @@ pub(crate) fn value_of(b: u8) -> u8
 }
 
 // The digit of a value below 16.
-pub(crate) fn digit_of(v: u8) -> u8
+fn digit_of(v: u8) -> u8
     requires { v < 16 }
     ensures { result ≡ digit_of v }
 {
     if v < 10 { b'0' + v } else { 55 + v }
+}
+
+// Writes one byte at the place `at`, unless that lies past the area's end, and tells the next place.
+pub fn put(area: &mut [u8], at: usize, b: u8) -> usize
+    requires { at < 2 ^ 63 }
+    ensures area { area.new ≡ written area.old at (b ∷ []) }
+    ensures next { result ≡ at + 1 }
+{
+    if at < area.len() {
+        area[at] = b;
+    }
+    at + 1
+}
+
+// Writes the last `digits` hexadecimal digits of a number from the place `at` on, as far as the area goes, and tells the next place.
+pub fn put_number(area: &mut [u8], at: usize, number: u32, digits: u8) -> usize
+    requires { (at < 2 ^ 62) × (digits ≤ 8) }
+    ensures area { area.new ≡ written area.old at (hexadecimal digits number) }
+    ensures next { result ≡ at + digits }
+{
+    let mut place = at;
+    for k in (0..digits).rev() {
+        let d = (number >> (4 * k)) & 15;
+        place = put(area, place, digit_of(d as u8));
+    }
+    place
 }

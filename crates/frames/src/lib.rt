@@ -8,7 +8,7 @@ pub mod lines;
 pub mod table;
 pub mod writers;
 
-pub use digits::digit;
+pub use digits::{digit, put, put_number};
 pub use faults::{FrameFault, LineFault, Refusal};
 pub use kinds::{Frame, frame_at, frame_of};
 pub use lines::{Bytes, line_at};

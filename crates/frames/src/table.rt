@@ -4,6 +4,7 @@ ghost use Rattle.frames.specs.Areas.{filled, told};
 ghost use Rattle.frames.specs.Writers.{Writes};
 ghost use Rattle.frames.specs.Refusals.{frame_fault_line, frame_fault_number, line, number, refusal_text};
 
+use crate::digits::{put, put_number};
 use crate::faults::{FrameFault, LineFault, Refusal};
 use crate::writers::Writer;
 
@@ -73,10 +74,11 @@ impl Refusal {
         requires { to.old.at < 2 ^ 32 }
         ensures { Writes to.old to.new (refusal_text self.now) }
     {
-        to.put_number(0x43, 2);
-        to.put_number(self.number() as u32, 2);
-        to.put_number(self.line(), 8);
-        to.put(b'\n');
+        let area = &mut *to.area;
+        let kind = put_number(area, to.at, 0x43, 2);
+        let number = put_number(area, kind, self.number() as u32, 2);
+        let line = put_number(area, number, self.line(), 8);
+        to.at = put(area, line, b'\n');
     }
 
     // Writes the refusal as a line of text, and tells its length; an area that is too short is refused and left as it was.

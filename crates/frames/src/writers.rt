@@ -3,7 +3,7 @@ ghost use Rattle.std.specs.Prelude.{◌≡◌, ℕ, ◌+◌, ◌^◌, ◌<◌, �
 ghost use Rattle.frames.specs.Digits.{hexadecimal};
 ghost use Rattle.frames.specs.Writers.{Writes};
 
-use crate::digits::digit_of;
+use crate::digits::{put, put_number};
 
 // An area, and the place in it where the next byte goes; what goes past the area's end is not written.
 #[derive(Drop)]
@@ -18,10 +18,7 @@ impl Writer<'_> {
         requires { self.old.at < 2 ^ 63 }
         ensures { Writes self.old self.new (b ∷ []) }
     {
-        if self.at < self.area.len() {
-            self.area[self.at] = b;
-        }
-        self.at += 1;
+        self.at = put(self.area, self.at, b);
     }
 
     // Writes the last `digits` hexadecimal digits of a number.
@@ -30,9 +27,6 @@ impl Writer<'_> {
         requires few { digits ≤ 8 }
         ensures { Writes self.old self.new (hexadecimal digits number) }
     {
-        for k in (0..digits).rev() {
-            let d = (number >> (4 * k)) & 15;
-            self.put(digit_of(d as u8));
-        }
+        self.at = put_number(self.area, self.at, number, digits);
     }
 }

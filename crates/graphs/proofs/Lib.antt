@@ -5,3 +5,4 @@ pub mod Queues
 pub mod Climbing
 pub mod Routes
 pub mod Clearing
+pub mod Finders

@@ -3,3 +3,4 @@ pub mod Walks
 pub mod Words
 pub mod Parents
 pub mod Paths
+pub mod Finders

@@ -7,10 +7,14 @@ pub mod finding;
 pub mod graph;
 mod passing;
 pub mod paths;
+pub mod reaching;
+pub mod steps;
 mod tracing;
 
 pub use cleaning::clear;
-pub use finding::Finder;
+pub use finding::{Finder, find};
 pub use graph::Graph;
 pub use passing::next_that;
 pub use paths::path;
+pub use reaching::reaches;
+pub use steps::{Plain, Steps};

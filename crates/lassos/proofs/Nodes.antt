@@ -1,16 +1,16 @@
 -- What a node says by the bits at hand is its truth.
-use Rattle.std.proofs.Common.{◌≡◌, ℕ, zero, suc, ◌+◌, ◌^◌, ◌<◌, Bool, true, T, ltb, leb, ◌↔◌, List, length, get_or, take, set, sym, refl, ap, ◌∙◌, subst, ap₂, arith}
+use Rattle.std.proofs.Common.{◌≡◌, ℕ, zero, suc, ◌+◌, ◌-◌, ◌^◌, ◌<◌, ◌≤◌, Bool, true, T, ltb, leb, ◌↔◌, List, length, get_or, take, set, Decides, sym, refl, ap, ◌∙◌, subst, ap₂, ⊎_elim, arith}
 use mathlib.Core.Logic.Iff
 use Rattle.std.proofs.lemmas.List.{get_or-take, get_or_default, length-take, get_or-map}
-use Rattle.std.proofs.lemmas.Bool.{and_parts, ltb-true}
+use Rattle.std.proofs.lemmas.Bool.{and_parts, cases_eq, ltb-true}
 use Rattle.frames.specs.Frames.{Node}
 use Rattle.frames.specs.Frames.Node.{apply, truth}
 use Rattle.masks.specs.Masks.{bit}
 use Rattle.language.specs.Properties.{Connective, Property, connective_at, connective_fits}
 use Rattle.language.proofs.Nodes.{connective_fit}
-use Rattle.logic.specs.Truth.{Fulfilled, Holds, Line, Says, later, node_at}
-use Rattle.logic.proofs.Bools.{along_T, iff_and, iff_not, iff_or}
-use Rattle.logic.proofs.Fits.{NodeFits, fits_at}
+use Rattle.logic.specs.Truth.{Fulfilled, Holds, Line, Says, later, node_at, root}
+use Rattle.logic.proofs.Bools.{T_true, along_T, iff_and, iff_not, iff_or}
+use Rattle.logic.proofs.Fits.{NodeFits, fits_at, root_in}
 use Rattle.logic.proofs.Sat.{fulfil_map, holds_unfold}
 use Rattle.properties.specs.Meaning.{meaning}
 use Rattle.properties.specs.Views.{connective_of, no_row, node_of}
@@ -24,7 +24,7 @@ use Rattle.lassos.specs.Rounds.{after}
 use Rattle.lassos.specs.Sweeps.{Filled, Runs}
 use Rattle.lassos.specs.Truths.{Known, Marked, Tells, round, said}
 use Rattle.lassos.proofs.Sweeps.{after_in}
-use Rattle.lassos.proofs.Words.{below_set}
+use Rattle.lassos.proofs.Words.{below_set, true_T}
 
 -- a node that is no connective
 abbrev pub Simple : NodeRow → Type 0
@@ -179,6 +179,24 @@ module _ (p : Stored) (k c arity : ℕ) (operands : List ℕ) (lk : k < p.rows.c
     tells_filled sets filled i li =
         Iff.trans (filled i (get_or p.rows.connectives c no_row).start (omega arith))
         (Iff.trans (runs_says i li) (Iff.symm (row_unfolds p label n a k bits (Apply c arity operands) lk is i)))
+
+-- one node more is known
+pub known_more : (f : Property) (l : Line) (n k q : ℕ) (was bits sets : List ℕ) → Known f l n k was → Tells f l n k q sets →
+    ((i j : ℕ) → i < n → j < k → bit (get_or bits i 0) j ≡ bit (get_or was i 0) j) → ((i : ℕ) → i < n → bit (get_or bits i 0) k ≡ bit (get_or sets i 0) q) → Known f l n (k + 1) bits
+known_more f l n k q was bits sets known tells kept new j lj i li = ⊎_elim
+    (λ e. subst (λ m. T (bit (get_or bits i 0) m) ↔ Holds f l m i) (sym e) (Iff.trans (along_T (new i li)) (tells i li)))
+    (λ ne. let lower : j < k = omega arith in Iff.trans (along_T (kept i j li lower)) (known j lower i li))
+    (cases_eq j k)
+
+-- the root is known at the first position
+pub root_decided : (p : Stored) (l : Line) (n k : ℕ) (bits : List ℕ) (r : Bool) → 0 < n → p.rows.count ≤ k → Known (meaning p) l n k bits →
+    r ≡ bit (get_or bits 0 0) (p.rows.count - 1) → Decides r (Holds (meaning p) l (root (meaning p)) 0)
+root_decided p l n k bits r some all known is =
+    let e : p.rows.count - 1 ≡ root (meaning p) = ap (λ m. m - 1) (sym (length_nodes p.rows)) in
+    let lower : root (meaning p) < k = omega (arith, root_in (meaning p) (formed p), length_nodes p.rows) in
+    let tells = known (root (meaning p)) lower 0 some in
+    let same : r ≡ bit (get_or bits 0 0) (root (meaning p)) = is ∙ ap (bit (get_or bits 0 0)) e in
+    (λ t. tells.0 (true_T (sym same ∙ t)), λ h. same ∙ T_true _ (tells.1 h))
 
 -- a node that is not a connective's
 pub simple_from : (x : NodeRow) → ((c arity : ℕ) (operands : List ℕ) → x ≡ Apply c arity operands → ⊥) → Simple x

@@ -9,6 +9,7 @@ use graphs::Finder;
 use models::Model;
 
 impl<'a, M: Model> Accepted<'a, M> {
+    ghost use Rattle.graphs.specs.Finders.{SameWords, room};
     ghost use Rattle.loops.specs.Lassos.{LoopBuilt};
     ghost use Rattle.loops.specs.Shapes.{SettingAt, model_at, property_at};
 
@@ -20,11 +21,11 @@ impl<'a, M: Model> Accepted<'a, M> {
         words: &mut [u32],
     ) -> usize
         requires setting { SettingAt M.Model self.now }
-        requires finder { layered_vertices (model_at M.Model self.now) (property_at self.now) ≤ finder.old }
+        requires finder { layered_vertices (model_at M.Model self.now) (property_at self.now) ≤ room finder.old }
         requires list { vertices (model_at M.Model self.now) (property_at self.now) ≤ length list.old }
         requires room { loop_words (model_at M.Model self.now) (property_at self.now) ≤ length words.old }
         ensures built { LoopBuilt (model_at M.Model self.now) (property_at self.now) self.now.x words.old words.new result }
-        ensures finder { finder.new ≡ finder.old }
+        ensures finder { SameWords finder.old finder.new }
     {
         let at = self.all_rounds(finder, words);
         let stands = self.visit_all(at, finder, list, words);

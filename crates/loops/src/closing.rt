@@ -11,6 +11,7 @@ use graphs::{Finder, Graph};
 use models::Model;
 
 impl<'a, M: Model> Accepted<'a, M> {
+    ghost use Rattle.graphs.specs.Finders.{SameWords, room};
     ghost use Rattle.loops.specs.Shapes.{SettingAt, model_at, property_at, set_at};
     ghost use Rattle.loops.specs.Visiting.{Closed, Visited};
 
@@ -24,12 +25,12 @@ impl<'a, M: Model> Accepted<'a, M> {
         words: &mut [u32],
     ) -> usize
         requires setting { SettingAt M.Model self.now }
-        requires finder { layered_vertices (model_at M.Model self.now) (property_at self.now) ≤ finder.old }
+        requires finder { layered_vertices (model_at M.Model self.now) (property_at self.now) ≤ room finder.old }
         requires list { vertices (model_at M.Model self.now) (property_at self.now) ≤ length list.old }
         requires room { stands.at + vertices (model_at M.Model self.now) (property_at self.now) ≤ length words.old }
         requires visited { Visited (model_at M.Model self.now) (property_at self.now) (set_at self.now) self.now.x (model_at M.Model self.now).sets stands words.old }
         ensures closed { Closed (model_at M.Model self.now) (property_at self.now) (set_at self.now) self.now.x stands words.old words.new result }
-        ensures finder { finder.new ≡ finder.old }
+        ensures finder { SameWords finder.old finder.new }
     {
         let o = &self.obligations;
         let inside = &o.inside;

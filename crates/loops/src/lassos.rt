@@ -12,6 +12,7 @@ use graphs::{Finder, Graph};
 use models::Model;
 
 impl<'a, M: Model> Accepted<'a, M> {
+    ghost use Rattle.graphs.specs.Finders.{SameWords, room};
     ghost use Rattle.loops.specs.Lassos.{LassoWritten, StemWritten};
     ghost use Rattle.loops.specs.Shapes.{SettingAt, model_at, property_at};
 
@@ -24,12 +25,12 @@ impl<'a, M: Model> Accepted<'a, M> {
         trace: &mut [u32],
     ) -> usize
         requires setting { SettingAt M.Model self.now }
-        requires finder { layered_vertices (model_at M.Model self.now) (property_at self.now) ≤ finder.old }
+        requires finder { layered_vertices (model_at M.Model self.now) (property_at self.now) ≤ room finder.old }
         requires first { StartVertex (model_at M.Model self.now) (property_at self.now) u self.now.x }
         requires list { vertices (model_at M.Model self.now) (property_at self.now) ≤ length list.old }
         requires room { vertices (model_at M.Model self.now) (property_at self.now) ≤ length trace.old }
         ensures stem { StemWritten (model_at M.Model self.now) (property_at self.now) u self.now.x trace.old trace.new result }
-        ensures finder { finder.new ≡ finder.old }
+        ensures finder { SameWords finder.old finder.new }
     {
         let o = &self.obligations;
         let product = o.inside.product;
@@ -49,12 +50,12 @@ impl<'a, M: Model> Accepted<'a, M> {
         trace: &mut [u32],
     ) -> Lengths
         requires setting { SettingAt M.Model self.now }
-        requires finder { layered_vertices (model_at M.Model self.now) (property_at self.now) ≤ finder.old }
+        requires finder { layered_vertices (model_at M.Model self.now) (property_at self.now) ≤ room finder.old }
         requires first { StartVertex (model_at M.Model self.now) (property_at self.now) u self.now.x }
         requires list { vertices (model_at M.Model self.now) (property_at self.now) ≤ length list.old }
         requires room { vertices (model_at M.Model self.now) (property_at self.now) + loop_words (model_at M.Model self.now) (property_at self.now) ≤ length trace.old }
         ensures lasso { LassoWritten (model_at M.Model self.now) (property_at self.now) trace.old trace.new result }
-        ensures finder { finder.new ≡ finder.old }
+        ensures finder { SameWords finder.old finder.new }
     {
         let stem = self.write_stem(u, finder, list, trace);
         let turns = self.build_loop(finder, list, &mut trace[stem..]);

@@ -15,6 +15,7 @@ use models::Model;
 use product::plan::node_width;
 
 impl<'a, M: Model> Accepted<'a, M> {
+    ghost use Rattle.graphs.specs.Finders.{SameWords, room};
     ghost use Rattle.loops.specs.Rounding.{NodesDone, RoundMade, RoundReady};
     ghost use Rattle.loops.specs.Shapes.{SettingAt, model_at, property_at, set_at};
 
@@ -27,10 +28,10 @@ impl<'a, M: Model> Accepted<'a, M> {
         words: &mut [u32],
     ) -> Progress
         requires setting { SettingAt M.Model self.now }
-        requires finder { layered_vertices (model_at M.Model self.now) (property_at self.now) ≤ finder.old }
+        requires finder { layered_vertices (model_at M.Model self.now) (property_at self.now) ≤ room finder.old }
         requires ready { RoundReady (model_at M.Model self.now) (property_at self.now) (set_at self.now) self.now.x k done words.old }
         ensures made { RoundMade (model_at M.Model self.now) (property_at self.now) (set_at self.now) self.now.x k done words.old words.new result }
-        ensures finder { finder.new ≡ finder.old }
+        ensures finder { SameWords finder.old finder.new }
     {
         let o = &self.obligations;
         let plan = o.inside.product.plan;
@@ -50,14 +51,14 @@ impl<'a, M: Model> Accepted<'a, M> {
     // The rounds of node k, until none of its obligations is due.
     fn node_rounds(&self, k: usize, finder: &mut Finder<'_>, words: &mut [u32], at: usize) -> usize
         requires setting { SettingAt M.Model self.now }
-        requires finder { layered_vertices (model_at M.Model self.now) (property_at self.now) ≤ finder.old }
+        requires finder { layered_vertices (model_at M.Model self.now) (property_at self.now) ≤ room finder.old }
         requires node { k < length (property_at self.now).nodes }
         requires done { NodesDone (model_at M.Model self.now) (property_at self.now) (set_at self.now) self.now.x k at words.old }
         requires room { mask_width (property_at self.now) * mask_width (property_at self.now) * vertices (model_at M.Model self.now) (property_at self.now) ≤ length words.old }
         ensures done { NodesDone (model_at M.Model self.now) (property_at self.now) (set_at self.now) self.now.x (suc k) result words.new }
         ensures further { at ≤ result }
         ensures rest { drop (result + 1) words.new ≡ drop (result + 1) words.old }
-        ensures finder { finder.new ≡ finder.old }
+        ensures finder { SameWords finder.old finder.new }
     {
         let o = &self.obligations;
         let product = o.inside.product;
@@ -77,12 +78,12 @@ impl<'a, M: Model> Accepted<'a, M> {
     // The rounds of all nodes: the words that are written are a loop on which every obligation at x is discharged.
     pub(crate) fn all_rounds(&self, finder: &mut Finder<'_>, words: &mut [u32]) -> usize
         requires setting { SettingAt M.Model self.now }
-        requires finder { layered_vertices (model_at M.Model self.now) (property_at self.now) ≤ finder.old }
+        requires finder { layered_vertices (model_at M.Model self.now) (property_at self.now) ≤ room finder.old }
         requires room { mask_width (property_at self.now) * mask_width (property_at self.now) * vertices (model_at M.Model self.now) (property_at self.now) ≤ length words.old }
         ensures open { OpenLoop (model_at M.Model self.now) (property_at self.now) (set_at self.now) self.now.x self.now.x 0 (take result words.new) }
         ensures longer { result ≤ mask_width (property_at self.now) * mask_width (property_at self.now) * vertices (model_at M.Model self.now) (property_at self.now) }
         ensures rest { drop (result + 1) words.new ≡ drop (result + 1) words.old }
-        ensures finder { finder.new ≡ finder.old }
+        ensures finder { SameWords finder.old finder.new }
     {
         let o = &self.obligations;
         let plan = o.inside.product.plan;

@@ -1,5 +1,6 @@
 //! A walk that is known to exist, written at a place of lent words.
 ghost use Rattle.std.specs.Prelude.{◌≡◌, ◌+◌, ◌<◌, ◌≤◌, length};
+ghost use Rattle.graphs.specs.Finders.{SameWords, room as room_in};
 ghost use Rattle.graphs.specs.Walks.{Reaches};
 ghost use Rattle.loops.specs.Words.{Routed};
 
@@ -16,11 +17,11 @@ pub(crate) fn route<G: Graph>(
     room: usize,
 ) -> usize
     requires ends { (from < G.Graph.states g.now) × (to < G.Graph.states g.now) }
-    requires finder { G.Graph.states g.now ≤ finder.old }
+    requires finder { G.Graph.states g.now ≤ room_in finder.old }
     requires room { (G.Graph.states g.now ≤ room) × (at + room ≤ length words.old) }
     requires reached { Reaches (G.Graph.edge g.now) from to }
     ensures routed { Routed (G.Graph.edge g.now) from to at room words.old words.new result }
-    ensures finder { finder.new ≡ finder.old }
+    ensures finder { SameWords finder.old finder.new }
 {
     finder.find(g, from, to, &mut words[at..at + room]).unwrap()
 }

@@ -13,6 +13,7 @@ use models::Model;
 use obligations::Component;
 
 impl<'a, M: Model> Accepted<'a, M> {
+    ghost use Rattle.graphs.specs.Finders.{SameWords, room};
     ghost use Rattle.loops.specs.Shapes.{SettingAt, model_at, property_at, set_at};
     ghost use Rattle.loops.specs.Visiting.{Visited};
 
@@ -26,7 +27,7 @@ impl<'a, M: Model> Accepted<'a, M> {
         words: &mut [u32],
     ) -> Standing
         requires setting { SettingAt M.Model self.now }
-        requires finder { layered_vertices (model_at M.Model self.now) (property_at self.now) ≤ finder.old }
+        requires finder { layered_vertices (model_at M.Model self.now) (property_at self.now) ≤ room finder.old }
         requires list { vertices (model_at M.Model self.now) (property_at self.now) ≤ length list.old }
         requires room { stands.at + vertices (model_at M.Model self.now) (property_at self.now) ≤ length words.old }
         requires set { j < (model_at M.Model self.now).sets }
@@ -34,7 +35,7 @@ impl<'a, M: Model> Accepted<'a, M> {
         ensures visited { Visited (model_at M.Model self.now) (property_at self.now) (set_at self.now) self.now.x (j + 1) result words.new }
         ensures further { (stands.at ≤ result.at) × (result.at ≤ stands.at + vertices (model_at M.Model self.now) (property_at self.now)) }
         ensures rest { drop result.at words.new ≡ drop result.at words.old }
-        ensures finder { finder.new ≡ finder.old }
+        ensures finder { SameWords finder.old finder.new }
     {
         let o = &self.obligations;
         let inside = &o.inside;
@@ -72,14 +73,14 @@ impl<'a, M: Model> Accepted<'a, M> {
         words: &mut [u32],
     ) -> Standing
         requires setting { SettingAt M.Model self.now }
-        requires finder { layered_vertices (model_at M.Model self.now) (property_at self.now) ≤ finder.old }
+        requires finder { layered_vertices (model_at M.Model self.now) (property_at self.now) ≤ room finder.old }
         requires list { vertices (model_at M.Model self.now) (property_at self.now) ≤ length list.old }
         requires room { at + (model_at M.Model self.now).sets * vertices (model_at M.Model self.now) (property_at self.now) ≤ length words.old }
         requires open { OpenLoop (model_at M.Model self.now) (property_at self.now) (set_at self.now) self.now.x self.now.x 0 (take at words.old) }
         ensures visited { Visited (model_at M.Model self.now) (property_at self.now) (set_at self.now) self.now.x (model_at M.Model self.now).sets result words.new }
         ensures further { (at ≤ result.at) × (result.at ≤ at + (model_at M.Model self.now).sets * vertices (model_at M.Model self.now) (property_at self.now)) }
         ensures rest { drop result.at words.new ≡ drop result.at words.old }
-        ensures finder { finder.new ≡ finder.old }
+        ensures finder { SameWords finder.old finder.new }
     {
         let o = &self.obligations;
         let product = o.inside.product;

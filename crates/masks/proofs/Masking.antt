@@ -13,6 +13,10 @@ digit_fits m k false low = let e : 2 ^ (k + 1) ≡ 2 ^ k * 2 = ap (λ n. 2 ^ n) 
 pub more_fits : (r w k : ℕ) (v : Bool) → w < 2 ^ k → r + cond (bit w k) (2 ^ k) 0 ≡ w + cond v (2 ^ k) 0 → r < 2 ^ (k + 1)
 more_fits r w k v low number = subst (λ x. x < 2 ^ (k + 1)) (sym (put_top r w k v low number)) (digit_fits w k v low)
 
+-- a word below 2 ^ k with a digit more is below the next power
+pub digits_fit : (r w k : ℕ) (v : Bool) → w < 2 ^ k → r ≡ cond v 1 0 * 2 ^ k + w → r < 2 ^ (k + 1)
+digits_fit r w k v low number = subst (λ x. x < 2 ^ (k + 1)) (sym number) (digit_fits w k v low)
+
 -- what holds of each bit below k, and of the one that is put there, holds of each bit below k + 1
 pub more_told : (r w k : ℕ) (v : Bool) (P : ℕ → Bool → Type 0) → ((j : ℕ) → bit r j ≡ cond (j == k) v (bit w j)) → P k v →
     ((j : ℕ) → j < k → P j (bit w j)) → (j : ℕ) → j < k + 1 → P j (bit r j)

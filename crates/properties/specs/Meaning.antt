@@ -1,5 +1,5 @@
 -- The property that rows, a draft and a stored property stand for.
-use Rattle.std.specs.Prelude.{false, true, Ok, Err, Result}
+use Rattle.std.specs.Prelude.{false, true, Ok, Err, Result, ⊤}
 use Rattle.frames.specs.declared.faults.Refusal.{Refusal}
 use Rattle.language.specs.Properties.{Property}
 use Rattle.language.specs.Reading.{Draft}
@@ -23,6 +23,11 @@ meaning p = of_rows p.rows
 abbrev pub drafted : Result DraftRows Refusal → Result Draft Refusal
 drafted (Ok d) = Ok (of_draft d)
 drafted (Err e) = Err e
+
+-- the draft that a line left, where the line was not refused
+abbrev pub led : Result ⊤ Refusal → DraftRows → Result DraftRows Refusal
+led (Ok x) d = Ok d
+led (Err e) d = Err e
 
 abbrev pub meant : Result Stored Refusal → Result Property Refusal
 meant (Ok p) = Ok (meaning p)

@@ -43,38 +43,32 @@ impl Rows {
     }
 
     // One connective more, before there is a node.
-    pub(crate) fn with_connective(&self, row: Connective) -> Rows
-        requires room { (self.now.used < 4) × (self.now.count ≡ 0) }
-        ensures { of_rows result ≡ record { connectives = (of_rows self.now).connectives ++ connective_of row ∷ []; nodes = (of_rows self.now).nodes } }
+    pub(crate) fn add_connective(&mut self, row: Connective)
+        requires room { (self.old.used < 4) × (self.old.count ≡ 0) }
+        ensures { of_rows self.new ≡ record { connectives = (of_rows self.old).connectives ++ connective_of row ∷ []; nodes = (of_rows self.old).nodes } }
     {
-        let mut rows = *self;
-        rows.connectives[self.used as usize] = row;
-        rows.used += 1;
-        rows
+        self.connectives[self.used as usize] = row;
+        self.used += 1;
     }
 
     // One transition more of the latest connective, before there is a node.
-    pub(crate) fn with_move(&self, p: u8, a: u8, r: u8) -> Rows
-        requires room { (0 < self.now.used) × (self.now.count ≡ 0) }
-        requires range { (p < (slice_index_or self.now.connectives (self.now.used - 1) no_row).states) × ((a < (slice_index_or self.now.connectives (self.now.used - 1) no_row).letters) × (r < (slice_index_or self.now.connectives (self.now.used - 1) no_row).states)) }
-        ensures { of_rows result ≡ record { connectives = slice_set (of_rows self.now).connectives (self.now.used - 1) (moving p a r (connective_at (of_rows self.now).connectives (self.now.used - 1))); nodes = (of_rows self.now).nodes } }
+    pub(crate) fn add_move(&mut self, p: u8, a: u8, r: u8)
+        requires room { (0 < self.old.used) × (self.old.count ≡ 0) }
+        requires range { (p < (slice_index_or self.old.connectives (self.old.used - 1) no_row).states) × ((a < (slice_index_or self.old.connectives (self.old.used - 1) no_row).letters) × (r < (slice_index_or self.old.connectives (self.old.used - 1) no_row).states)) }
+        ensures { of_rows self.new ≡ record { connectives = slice_set (of_rows self.old).connectives (self.old.used - 1) (moving p a r (connective_at (of_rows self.old).connectives (self.old.used - 1))); nodes = (of_rows self.old).nodes } }
     {
         let latest = self.used as usize - 1;
-        let mut rows = *self;
-        rows.connectives[latest] = self.connectives[latest].with_bit(p, a, r);
-        rows
+        self.connectives[latest] = self.connectives[latest].with_bit(p, a, r);
     }
 
     // One node more, with the width that the nodes then have.
-    pub(crate) fn with_node(&self, row: Node, width: u8) -> Rows
-        requires room { self.now.count < 32 }
-        requires wide { (width ≡ self.now.width + node_width (of_rows self.now).connectives (node_of row)) × (width ≤ 12) }
-        ensures { of_rows result ≡ record { connectives = (of_rows self.now).connectives; nodes = (of_rows self.now).nodes ++ node_of row ∷ [] } }
+    pub(crate) fn add_node(&mut self, row: Node, width: u8)
+        requires room { self.old.count < 32 }
+        requires wide { (width ≡ self.old.width + node_width (of_rows self.old).connectives (node_of row)) × (width ≤ 12) }
+        ensures { of_rows self.new ≡ record { connectives = (of_rows self.old).connectives; nodes = (of_rows self.old).nodes ++ node_of row ∷ [] } }
     {
-        let mut rows = *self;
-        rows.nodes[self.count as usize] = row;
-        rows.count += 1;
-        rows.width = width;
-        rows
+        self.nodes[self.count as usize] = row;
+        self.count += 1;
+        self.width = width;
     }
 }

@@ -1,12 +1,12 @@
 //! One line more: its order is judged first, then its values, then the limits.
-ghost use Rattle.std.specs.Prelude.{◌≡◌, ℕ, ◌+◌, ◌<◌, ◌≤◌, Bool, true, false, ◌&&◌, [], ◌∷◌, ◌++◌, length, take, MatchOption, nat_le, nat_lt};
+ghost use Rattle.std.specs.Prelude.{◌≡◌, ℕ, ◌+◌, ◌<◌, ◌≤◌, Bool, true, false, ◌&&◌, [], ◌∷◌, ◌++◌, length, take, MatchOption, OnErr, nat_le, nat_lt};
 ghost use Rattle.frames.specs.Borrowed.{meant};
 ghost use Rattle.frames.specs.Frames.Frame.{connective, end, node, transition};
 ghost use Rattle.frames.specs.Frames.Node.{apply};
 ghost use Rattle.frames.specs.Lines.{spelt};
 ghost use Rattle.language.specs.Properties.{all_below, connective_fits, idle, node_fits, node_width};
 ghost use Rattle.language.specs.Reading.{blank, taken};
-ghost use Rattle.properties.specs.Meaning.{drafted, of_draft, of_rows};
+ghost use Rattle.properties.specs.Meaning.{drafted, led, of_draft, of_rows};
 ghost use Rattle.properties.specs.Views.{node_of};
 
 use crate::arrays::Rows;
@@ -97,8 +97,9 @@ fn applied(c: u8, digits: &[u8]) -> Option<Node>
 }
 
 impl Rows {
-    fn connective(&self, m: u8, n: u8, q: u8, f: u8, line: u32) -> Result<Draft, Refusal>
-        ensures { drafted result ≡ taken line (of_draft (Draft.Open self.now)) (connective m n q f) }
+    fn connective(&mut self, m: u8, n: u8, q: u8, f: u8, line: u32) -> Result<(), Refusal>
+        ensures takes { drafted (led result (Draft.Open self.new)) ≡ taken line (of_draft (Draft.Open self.old)) (connective m n q f) }
+        ensures err { OnErr result (self.new ≡ self.old) }
     {
         if self.count > 0 {
             return Err(Refusal::Order { line });
@@ -109,17 +110,19 @@ impl Rows {
         if self.used >= 4 {
             return Err(Refusal::Limit { line });
         }
-        Ok(Draft::Open(self.with_connective(Connective {
+        self.add_connective(Connective {
             states: m,
             letters: n,
             start: q,
             finals: f,
             moves: [0; 32],
-        })))
+        });
+        Ok(())
     }
 
-    fn transition(&self, p: u8, a: u8, r: u8, line: u32) -> Result<Draft, Refusal>
-        ensures { drafted result ≡ taken line (of_draft (Draft.Open self.now)) (transition p a r) }
+    fn transition(&mut self, p: u8, a: u8, r: u8, line: u32) -> Result<(), Refusal>
+        ensures takes { drafted (led result (Draft.Open self.new)) ≡ taken line (of_draft (Draft.Open self.old)) (transition p a r) }
+        ensures err { OnErr result (self.new ≡ self.old) }
     {
         if self.count > 0 || self.used == 0 {
             return Err(Refusal::Order { line });
@@ -128,11 +131,13 @@ impl Rows {
         if p >= latest.states || a >= latest.letters || r >= latest.states {
             return Err(Refusal::Value { line });
         }
-        Ok(Draft::Open(self.with_move(p, a, r)))
+        self.add_move(p, a, r);
+        Ok(())
     }
 
-    fn node(&self, row: Node, line: u32) -> Result<Draft, Refusal>
-        ensures { drafted result ≡ taken line (of_draft (Draft.Open self.now)) (node (node_of row)) }
+    fn node(&mut self, row: Node, line: u32) -> Result<(), Refusal>
+        ensures takes { drafted (led result (Draft.Open self.new)) ≡ taken line (of_draft (Draft.Open self.old)) (node (node_of row)) }
+        ensures err { OnErr result (self.new ≡ self.old) }
     {
         if !self.fits(row) {
             return Err(Refusal::Value { line });
@@ -141,11 +146,13 @@ impl Rows {
         if !within_limits(self.count, width) {
             return Err(Refusal::Limit { line });
         }
-        Ok(Draft::Open(self.with_node(row, width)))
+        self.add_node(row, width);
+        Ok(())
     }
 
-    fn apply(&self, c: u8, digits: &[u8], line: u32) -> Result<Draft, Refusal>
-        ensures { drafted result ≡ taken line (of_draft (Draft.Open self.now)) (node (apply c (spelt digits.now))) }
+    fn apply(&mut self, c: u8, digits: &[u8], line: u32) -> Result<(), Refusal>
+        ensures takes { drafted (led result (Draft.Open self.new)) ≡ taken line (of_draft (Draft.Open self.old)) (node (apply c (spelt digits.now))) }
+        ensures err { OnErr result (self.new ≡ self.old) }
     {
         match applied(c, digits) {
             Some(row) => self.node(row, line),
@@ -161,32 +168,6 @@ impl Rows {
         }
         Ok(Draft::Ended(*self))
     }
-
-    // What the rows and a frame at a line give, or the line's refusal.
-    fn take(&self, frame: Frame<'_>, line: u32) -> Result<Draft, Refusal>
-        ensures { drafted result ≡ taken line (of_draft (Draft.Open self.now)) (meant frame.entry) }
-    {
-        match frame {
-            Frame::Connective {
-                states,
-                letters,
-                start,
-                finals,
-            } => self.connective(states, letters, start, finals, line),
-            Frame::Transition { from, letter, to } => self.transition(from, letter, to, line),
-            Frame::Proposition(p) => self.node(Node::Proposition(p), line),
-            Frame::Not(i) => self.node(Node::Not(i), line),
-            Frame::Next(i) => self.node(Node::Next(i), line),
-            Frame::And(i, j) => self.node(Node::And(i, j), line),
-            Frame::Or(i, j) => self.node(Node::Or(i, j), line),
-            Frame::Apply {
-                connective: c,
-                operands,
-            } => self.apply(c, operands, line),
-            Frame::True => self.node(Node::True, line),
-            Frame::End => self.end(line),
-        }
-    }
 }
 
 impl Draft {
@@ -197,12 +178,35 @@ impl Draft {
         Draft::Open(Rows::new())
     }
 
-    // The draft with what a frame at a line says, or the line's refusal: nothing stands after the end.
-    pub(crate) fn take(&self, frame: Frame<'_>, line: u32) -> Result<Draft, Refusal>
-        ensures { drafted result ≡ taken line (of_draft self.now) (meant frame.entry) }
+    // Takes what a frame at a line says, or refuses the line and stays as it was: nothing stands after the end.
+    pub(crate) fn take(&mut self, frame: Frame<'_>, line: u32) -> Result<(), Refusal>
+        ensures takes { drafted (led result self.new) ≡ taken line (of_draft self.old) (meant frame.entry) }
+        ensures err { OnErr result (self.new ≡ self.old) }
     {
         match self {
-            Draft::Open(rows) => rows.take(frame, line),
+            Draft::Open(rows) => match frame {
+                Frame::Connective {
+                    states,
+                    letters,
+                    start,
+                    finals,
+                } => rows.connective(states, letters, start, finals, line),
+                Frame::Transition { from, letter, to } => rows.transition(from, letter, to, line),
+                Frame::Proposition(p) => rows.node(Node::Proposition(p), line),
+                Frame::Not(i) => rows.node(Node::Not(i), line),
+                Frame::Next(i) => rows.node(Node::Next(i), line),
+                Frame::And(i, j) => rows.node(Node::And(i, j), line),
+                Frame::Or(i, j) => rows.node(Node::Or(i, j), line),
+                Frame::Apply {
+                    connective: c,
+                    operands,
+                } => rows.apply(c, operands, line),
+                Frame::True => rows.node(Node::True, line),
+                Frame::End => {
+                    *self = rows.end(line)?;
+                    Ok(())
+                }
+            },
             Draft::Ended(_) => Err(Refusal::Order { line }),
         }
     }

@@ -22,7 +22,7 @@ impl Property {
         let mut number = 1;
         while at < text.len() {
             let (frame, size) = frame_at(text, at, number)?;
-            draft = draft.take(frame, number)?;
+            draft.take(frame, number)?;
             at += size;
             number += 1;
         }

@@ -11,7 +11,7 @@ ghost use Rattle.properties.specs.Views.{connective_of, node_of};
 use crate::arrays::Rows;
 use crate::property::Property;
 use crate::rows::{Connective, Node};
-use frames::{Refusal, Writer};
+use frames::{Refusal, Writer, put, put_number};
 
 // Writes the line of some bytes.
 fn put_line(to: &mut Writer<'_>, bytes: &[u8])
@@ -20,10 +20,12 @@ fn put_line(to: &mut Writer<'_>, bytes: &[u8])
     ensures line { Writes to.old to.new (text_of (bytes.now ∷ [])) }
     ensures near { to.new.at ≤ to.old.at + 13 }
 {
+    let area = &mut *to.area;
+    let mut at = to.at;
     for b in bytes {
-        to.put_number(*b as u32, 2);
+        at = put_number(area, at, *b as u32, 2);
     }
-    to.put(b'\n');
+    to.at = put(area, at, b'\n');
 }
 
 // Writes the lines of state p on letter a, one for each state that it may go to.

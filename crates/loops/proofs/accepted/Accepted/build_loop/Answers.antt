@@ -1,4 +1,5 @@
-use Rattle.std.proofs.Common.{ℕ, ◌+◌, ◌*◌, Bool, length, ◌∙◌}
+use Rattle.std.proofs.Common.{ℕ, ◌+◌, ◌*◌, Bool, length}
+use Rattle.graphs.proofs.Finders.{same_since}
 use Rattle.kripke.specs.Models.{Kripke}
 use Rattle.logic.specs.Product.{mask_width}
 use Rattle.obligations.specs.Shapes.{model_in, property_in, set_in}
@@ -28,5 +29,5 @@ returns g c =
     let visits = c.visit_all-stands.ensures in
     record {
       built = joins m f c.requires.setting.formed G c.args.self.now.x c.requires.setting.vertex c.requires.setting.tested.inside c.all_rounds-at.result c.close.result c.visit_all-stands.result c.args.words.now c.all_rounds-at.new.words c.visit_all-stands.new.words c.close.new.words rounds.longer rounds.rest visits.visited visits.further.0 visits.further.1 visits.rest c.close.ensures.closed;
-      finder = c.close.ensures.finder ∙ visits.finder ∙ rounds.finder;
+      finder = same_since _ _ _ rounds.finder (same_since _ _ _ visits.finder c.close.ensures.finder);
     }

@@ -1,5 +1,6 @@
 use Rattle.std.proofs.Common.{ℕ, ◌+◌, ◌-◌, ◌/◌, ◌≤◌, Bool, List, length, take, set, sym, subst, zero-le, length-set}
 use Rattle.graphs.specs.Successors.{Lowest}
+use Rattle.graphs.specs.Finders.{room}
 use Rattle.kripke.specs.Models.{Kripke}
 use Rattle.logic.specs.Product.{mask_width}
 use Rattle.obligations.specs.Shapes.{model_in, property_in, set_in}
@@ -29,7 +30,7 @@ route-count-requires g c =
     let lowest = rw c.unwrap-next.ensures at c.next.ensures.lowest in
     record {
       ends = (lowest.1, c.requires.setting.vertex);
-      finder = one_layer (mask_width f) (vertices m f) c.args.finder.now c.requires.finder;
+      finder = one_layer (mask_width f) (vertices m f) (room c.args.finder.now) c.requires.finder;
       room = walk_room (vertices m f) c.states-size.result (length c.args.list.now) c.states-size.ensures.is c.requires.list;
       reached = inner_reaches m f G c.requires.setting.joined c.unwrap-next.result c.args.self.now.x (inner_parts m f G c.args.stands.vertex c.unwrap-next.result lowest.2).1 c.requires.setting.tested.inside;
     }

@@ -1,4 +1,5 @@
-use Rattle.std.proofs.Common.{◌*◌, ◌≤◌, length, sym, refl, ◌∙◌, subst, arith}
+use Rattle.std.proofs.Common.{◌*◌, ◌≤◌, length, arith}
+use Rattle.graphs.proofs.Finders.{same_since, same_words, still_room}
 use Rattle.kripke.specs.Models.{Kripke}
 use Rattle.logic.specs.Product.{mask_width}
 use Rattle.obligations.specs.Shapes.{index_in, layered_vertices, model_in, property_in, set_in}
@@ -17,7 +18,7 @@ loop-done-init g c =
     let f = property_in inside in (
       way_begins m f (set_in inside) c.args.self.now.x c.args.k c.args.at c.pending.result (index_in inside) c.args.words.now c.requires.setting c.requires.done
           (pending_is m f c.size-masks.result c.label-label.result c.args.self.now.x c.args.k c.pending.result c.size-masks.ensures.is c.label-label.ensures.is c.pending.ensures),
-      refl,
+      same_words _,
     )
 
 pub round-done-requires : goal.round-done-requires
@@ -30,7 +31,7 @@ round-done-requires g c =
     let room : mask_width f * mask_width f * vertices m f ≤ length c.args.words.now = c.requires.room in
     record {
       setting = c.requires.setting;
-      finder = subst (λ n. layered_vertices m f ≤ n) (sym c.loop-done.invariant.1) c.requires.finder;
+      finder = still_room _ _ (layered_vertices m f) c.loop-done.invariant.1 c.requires.finder;
       ready = round_ready m f (set_in inside) c.args.self.now.x c.args.k c.args.at c.args.words.now c.loop-done.done c.loop-done.words c.requires.node c.loop-done.invariant.0
           (omega arith) (omega arith);
     }
@@ -42,7 +43,7 @@ loop-done-preserved g c =
     let taken = c.loop-done-test.true in (
       way_on m (property_in inside) (set_in inside) c.args.self.now.x c.args.k c.args.at c.args.words.now c.loop-done.done c.loop-done.words c.requires.node c.loop-done.invariant.0 (omega arith)
           c.round-done.new.words c.round-done.result c.round-done.ensures.made,
-      c.round-done.ensures.finder ∙ c.loop-done.invariant.1,
+      same_since _ _ _ c.loop-done.invariant.1 c.round-done.ensures.finder,
     )
 
 pub returns : goal.returns

@@ -1,4 +1,5 @@
 use Rattle.std.proofs.Common.{ℕ, ◌+◌, ◌-◌, ◌≤◌, Bool, List, length, take}
+use Rattle.graphs.specs.Finders.{room}
 use Rattle.kripke.specs.Models.{Kripke}
 use Rattle.logic.specs.Product.{mask_width}
 use Rattle.obligations.specs.Shapes.{model_in, property_in, set_in}
@@ -27,7 +28,7 @@ route-count-requires g c =
     let met = rw c.unwrap-vertex.ensures at c.fair_vertex.ensures in
     record {
       ends = (c.requires.visited.vertex, member_low m f G c.args.self.now.x c.requires.setting.joined c.requires.setting.tested c.unwrap-vertex.result met.0);
-      finder = one_layer (mask_width f) (vertices m f) c.args.finder.now c.requires.finder;
+      finder = one_layer (mask_width f) (vertices m f) (room c.args.finder.now) c.requires.finder;
       room = walk_room (vertices m f) c.states-size.result (length c.args.list.now) c.states-size.ensures.is c.requires.list;
       reached = inner_reaches m f G c.requires.setting.joined c.args.stands.vertex c.unwrap-vertex.result c.requires.visited.inside (true_T (G c.unwrap-vertex.result) met.0);
     }

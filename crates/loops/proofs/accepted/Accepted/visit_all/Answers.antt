@@ -1,4 +1,5 @@
 use Rattle.std.proofs.Common.{ℕ, ◌<◌, ◌≤◌, length, sym, ◌∙◌, subst}
+use Rattle.graphs.proofs.Finders.{same_since, still_room}
 use Rattle.kripke.specs.Models.{Kripke}
 use Rattle.obligations.specs.Shapes.{layered_vertices, model_in, property_in}
 use Rattle.tableau.specs.Numbers.{vertices}
@@ -14,7 +15,7 @@ visit-stands-requires g c =
     let more : c.loop-j.j < m.sets = subst (λ n. c.loop-j.j < n) c.fair_sets-j-end.ensures.is c.loop-j-test.true in
     record {
       setting = c.requires.setting;
-      finder = subst (λ n. layered_vertices m f ≤ n) (sym inv.4) c.requires.finder;
+      finder = still_room _ _ (layered_vertices m f) inv.4 c.requires.finder;
       list = subst (λ n. vertices m f ≤ n) (sym inv.5) c.requires.list;
       room = visit_room (vertices m f) m.sets c.args.at c.loop-j.stands.at c.loop-j.j (length c.loop-j.words) (length c.args.words.now) c.requires.room c.loop-j.auto.words more inv.2;
       set = more;
@@ -34,6 +35,6 @@ loop-j-preserved g c =
       long.0,
       long.1,
       made.rest ∙ later here next c.loop-j.words c.args.words.now made.further.0 inv.3,
-      made.finder ∙ inv.4,
+      same_since _ _ _ inv.4 made.finder,
       c.visit-stands.auto.list ∙ inv.5,
     )

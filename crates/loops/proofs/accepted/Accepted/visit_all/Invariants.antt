@@ -1,4 +1,5 @@
 use Rattle.std.proofs.Common.{◌≡◌, ◌+◌, ◌*◌, ◌≤◌, length, drop}
+use Rattle.graphs.specs.Finders.{SameWords}
 use Rattle.kripke.specs.Models.{Kripke}
 use Rattle.language.specs.Properties.{Property}
 use Rattle.obligations.specs.Shapes.{model_in, property_in, set_in}
@@ -15,5 +16,5 @@ invariant-loop-j g l =
     × (l.at ≤ l.stands.at)
     × (l.stands.at ≤ l.at + l.j * vertices m f)
     × (drop l.stands.at l.words ≡ drop l.stands.at l.initial.words)
-    × (l.finder ≡ l.initial.finder)
+    × SameWords l.initial.finder l.finder
     × (length l.list ≡ length l.initial.list)

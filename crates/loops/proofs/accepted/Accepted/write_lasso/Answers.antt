@@ -1,4 +1,4 @@
-use Rattle.std.proofs.Common.{◌∙◌}
+use Rattle.graphs.proofs.Finders.{same_since}
 use Rattle.kripke.specs.Models.{Kripke}
 use Rattle.obligations.specs.Shapes.{model_in, property_in}
 use Rattle.loops.proofs.Traces.{traced}
@@ -12,5 +12,5 @@ returns g c =
     let turns = c.build_loop-turns.ensures in
     record {
       lasso = traced m f c.args.u c.args.self.now.x c.write_stem-stem.result c.build_loop-turns.result c.args.trace.now c.write_stem-stem.new.trace c.build_loop-turns.new.words c.requires.first stem.stem turns.built c.build_loop-turns.auto.words c.write_stem-stem.auto.trace c.requires.room;
-      finder = turns.finder ∙ stem.finder;
+      finder = same_since _ _ _ stem.finder turns.finder;
     }

@@ -1,4 +1,5 @@
 use Rattle.std.proofs.Common.{ℕ, ◌-◌, List, length, take, zero-le}
+use Rattle.graphs.specs.Finders.{room}
 use Rattle.kripke.specs.Models.{Kripke}
 use Rattle.logic.specs.Product.{mask_width}
 use Rattle.obligations.specs.Shapes.{model_in, property_in}
@@ -14,7 +15,7 @@ route-count-requires g c =
     let f = property_in c.args.self.now.obligations.inside in
     record {
       ends = (c.requires.first.vertex, c.requires.setting.vertex);
-      finder = one_layer (mask_width f) (vertices m f) c.args.finder.now c.requires.finder;
+      finder = one_layer (mask_width f) (vertices m f) (room c.args.finder.now) c.requires.finder;
       room = walk_room (vertices m f) c.states-size.result (length c.args.list.now) c.states-size.ensures.is c.requires.list;
       reached = c.requires.first.leads;
     }

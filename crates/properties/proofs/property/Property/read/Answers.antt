@@ -20,11 +20,11 @@ returns-in_err-frame c =
     let e = frame_refused c.loop-at.number (of_draft c.loop-at.draft) t _ left c.in_err-frame.ensures ∙ sym c.loop-at.invariant.same in
     rw (p.1, p.2) (record { spells = e; decided = decided_by c.args.text.now _ e })
 
-pub returns-in_err-draft : goal.returns-in_err-draft
-returns-in_err-draft c =
-    let p = err_from_is_err_and c.from_residual-in_err-draft.result c.from_residual-in_err-draft.ensures.1 in
+pub returns-in_err-take : goal.returns-in_err-take
+returns-in_err-take c =
+    let p = err_from_is_err_and c.from_residual-in_err-take.result c.from_residual-in_err-take.ensures.1 in
     let t = drop c.loop-at.at c.args.text.now in
-    let e = line_refused c.loop-at.number (of_draft c.loop-at.draft) t _ c.in_ok-frame.size _ c.in_ok-frame.ensures c.in_err-draft.ensures ∙ sym c.loop-at.invariant.same in
+    let e = line_refused c.loop-at.number (of_draft c.loop-at.draft) t _ c.in_ok-frame.size _ c.in_ok-frame.ensures c.in_err-take.ensures.takes ∙ sym c.loop-at.invariant.same in
     rw (p.1, p.2) (record { spells = e; decided = decided_by c.args.text.now _ e })
 
 pub overflow_add-at : goal.overflow_add-at
@@ -40,7 +40,7 @@ loop-at-smaller c =
 pub loop-at-preserved : goal.loop-at-preserved
 loop-at-preserved c =
     let s = line_size c.loop-at.number c.loop-at.at c.args.text.now _ c.in_ok-frame.size c.loop-at.invariant.within c.in_ok-frame.ensures in
-    let e = c.loop-at.invariant.same ∙ line_taken c.loop-at.number c.loop-at.at (of_draft c.loop-at.draft) (of_draft c.in_ok-draft.draft) c.args.text.now _ c.in_ok-frame.size c.in_ok-frame.ensures c.in_ok-draft.ensures in
+    let e = c.loop-at.invariant.same ∙ line_taken c.loop-at.number c.loop-at.at (of_draft c.loop-at.draft) _ c.args.text.now _ c.in_ok-frame.size c.in_ok-frame.ensures c.in_ok-take.ensures.takes in
     record { within = s.1; numbered = omega (arith, s.0, c.loop-at.invariant.numbered); same = e }
 
 pub returns-in-Open : goal.returns-in-Open
